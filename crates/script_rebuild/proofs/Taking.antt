@@ -1,6 +1,6 @@
 -- What the action takes.
 use Rattle.std.proofs.Common.{◌≡◌, ℕ, ◌+◌, ◌≤◌, List, [], ◌∷◌, ◌++◌, refl, sym, ◌∙◌, ap, subst, Bool, true, false, Option, Some, None, Result, Ok, Err, append-nil, append_assoc, length, length-append, arith, All, drop}
-use Rattle.std.specs.Prelude.{◌==◌, is_none, is_some, option_map}
+use Rattle.std.specs.Prelude.{◌==◌, is_some, option_map}
 use Rattle.std.proofs.Common.{◌⊎◌, inl, inr, ◌-◌}
 use Rattle.port_formatter.proofs.Owing.{with_last}
 use Rattle.port_formatter.specs.Owed.{last_of}
@@ -8,7 +8,7 @@ use Rattle.stp_grammar.specs.declared.packet.Order.{Order}
 use Rattle.source_events.specs.declared.plan.Plan.{Plan}
 use Rattle.trace_funnel.specs.declared.turns.Turns.{Turns}
 use Rattle.script_rebuild.specs.Routed.{routed_by}
-use Rattle.trace_stream.specs.Debt.{Debt, Paid, owing, with_debt}
+use Rattle.trace_stream.specs.Debt.{Paid, owing, with_debt}
 use Rattle.trace_stream.specs.Taken.{HasTaken, FaultAfter}
 use Rattle.trace_stream.specs.declared.limits.TheConstants.{GREATEST_CAPTURE}
 use Rattle.port_formatter.specs.Port.{written}
@@ -437,11 +437,3 @@ all_owed kept owed e =
 -- while it reads its writer owes nothing where it doesn't
 pub paid_writer : (r : Rebuild) → r.owed ≡ None → debt_of r ≡ Paid → writers.debt_of r.writer ≡ Paid
 paid_writer r reading paid = ap (λ (o : Option ℕ). debt_with o (writers.kept_by r.writer)) (sym reading) ∙ paid
-
-pub none_by : (o : Option ℕ) → is_none o ≡ true → o ≡ None
-none_by None h = refl
-none_by (Some owed) h = cc
-
-pub some_by : (o : Option ℕ) → is_none o ≡ false → is_some o ≡ true
-some_by None h = cc
-some_by (Some owed) h = refl

@@ -1,5 +1,4 @@
-use Rattle.std.proofs.Common.{◌≡◌, List, sym, ◌∙◌, ap, subst, Result, Ok, Err}
-use Rattle.std.specs.Prelude.{None}
+use Rattle.std.proofs.Common.{◌≡◌, List, sym, ◌∙◌, ap, subst, Result, Err}
 use Rattle.stp_encoder.specs.Puts.{items_in}
 use Rattle.port_formatter.specs.Formatter.{turns_of}
 use Rattle.script_text.specs.VersionTwo.{as_one}
@@ -12,7 +11,7 @@ use Rattle.script_rebuild.specs.Encoding.{NextItem, AreReady, line_for}
 use Rattle.script_rebuild.specs.Routed.{line_if}
 use Rattle.script_rebuild.specs.Versions.{fitting_item}
 use Rattle.script_rebuild.specs.declared.encoders.SourceEncoder.{SourceEncoder}
-use Rattle.script_rebuild.proofs.Answering.{fault_stays, then_placed, plain_line}
+use Rattle.script_rebuild.proofs.Answering.{fault_stays, then_placed}
 use Rattle.script_rebuild.proofs.Placing.{item_placed}
 use Rattle.script_rebuild.proofs.bytes.item_fits.Goals as goal
 

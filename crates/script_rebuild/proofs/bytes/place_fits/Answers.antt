@@ -1,4 +1,4 @@
-use Rattle.std.proofs.Common.{◌≡◌, sym, ◌∙◌, true, false}
+use Rattle.std.proofs.Common.{sym, ◌∙◌, true, false}
 use Rattle.port_formatter.specs.Formatter.{turns_of}
 use Rattle.script_rebuild.proofs.Placing.{placed_by}
 use Rattle.script_rebuild.proofs.bytes.place_fits.Goals as goal

@@ -1,8 +1,7 @@
-use Rattle.std.proofs.Common.{◌≡◌, refl, ℕ, List, length, sym, ◌∙◌, ap, subst, true, false, Ok, rules}
+use Rattle.std.proofs.Common.{◌≡◌, refl, List, length, sym, ◌∙◌, ap, subst, true, false, Ok, rules}
 use Rattle.std.specs.List.{refill}
 use Rattle.dwt_packets.specs.Packet.{packet}
 use Rattle.itm_grammar.specs.Shortest.{short}
-use Rattle.itm_grammar.specs.declared.packet.Size.{Size}
 use Rattle.port_formatter.specs.Formatter.{Puts, turns_of}
 use Rattle.port_formatter.specs.Port.{has_place}
 use Rattle.script_text.specs.declared.items.Item.{Item}

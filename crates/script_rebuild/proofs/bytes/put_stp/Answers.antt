@@ -1,6 +1,6 @@
-use Rattle.std.proofs.Common.{◌≡◌, refl, ℕ, ◌+◌, ◌*◌, ◌≤◌, List, length, sym, ◌∙◌, ap, subst, Bool, true, false, Option, Ok, Err, None, arith, rules}
+use Rattle.std.proofs.Common.{◌≡◌, refl, ℕ, ◌+◌, ◌*◌, ◌≤◌, List, length, sym, ◌∙◌, ap, subst, true, false, None, arith, rules}
 use Rattle.std.specs.List.{position}
-use Rattle.std.specs.Prelude.{◌==◌, if◌then◌else◌}
+use Rattle.std.specs.Prelude.{◌==◌}
 use Rattle.stp_grammar.specs.declared.packet.Order.{Order}
 use Rattle.stp_encoder.specs.Bytes.{put_bytes}
 use Rattle.port_formatter.specs.Formatter.{Puts, turns_of}

@@ -1,15 +1,10 @@
-use Rattle.std.proofs.Common.{◌≡◌, refl, ℕ, ◌+◌, ◌*◌, ◌≤◌, List, length, sym, ◌∙◌, ap, subst, Bool, true, false, Option, Ok, Err, None, arith, rules}
+use Rattle.std.proofs.Common.{◌≡◌, refl, sym, ◌∙◌, true, false, None}
 use Rattle.std.specs.List.{position}
-use Rattle.std.specs.Prelude.{◌==◌, if◌then◌else◌}
-use Rattle.stp_grammar.specs.declared.packet.Order.{Order}
-use Rattle.stp_encoder.specs.Bytes.{put_bytes}
-use Rattle.port_formatter.specs.Formatter.{Puts, turns_of}
+use Rattle.std.specs.Prelude.{◌==◌}
 use Rattle.script_text.specs.declared.items.Item.TheVariants.{Stp}
-use Rattle.script_rebuild.specs.Script.{tagged}
 use Rattle.script_rebuild.specs.Encoding.{NextItem}
-use Rattle.script_rebuild.proofs.Answering.{stp_line, item_placed_by}
+use Rattle.script_rebuild.proofs.Answering.{stp_line}
 use Rattle.script_rebuild.proofs.EachEncoder.{none_of, found_of, stands_of}
-use Rattle.script_rebuild.proofs.Rooms.{less_room}
 use Rattle.script_rebuild.proofs.bytes.stp_fits.Goals as goal
 
 pub returns-in_default : goal.returns-in_default

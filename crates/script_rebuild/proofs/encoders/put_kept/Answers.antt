@@ -1,10 +1,6 @@
-use Rattle.std.proofs.Common.{rules, ◌≡◌, ◌<◌, ◌≤◌, ◌+◌, ◌*◌, ◌++◌, ◌∷◌, [], ℕ, List, length, get_or, take, ◌∙◌, ap, sym, subst, arith, false}
+use Rattle.std.proofs.Common.{rules, ◌≡◌, ◌<◌, ◌≤◌, ◌+◌, ◌*◌, ◌++◌, ◌∷◌, [], ℕ, List, length, get_or, take, ◌∙◌, ap, sym, subst, arith}
 use Rattle.std.proofs.lemmas.List.{length-map, length-take-le, map-append, take_all}
-use Rattle.stp_grammar.specs.declared.packet.Order.{Order}
-use Rattle.stp_encoder.specs.Bytes.{end_bytes}
-use Rattle.stp_encoder.specs.Puts.{Put}
-use Rattle.port_formatter.specs.Formatter.{HasRoom, turns_of}
-use Rattle.port_formatter.specs.Port.{has_place}
+use Rattle.port_formatter.specs.Formatter.{turns_of}
 use Rattle.trace_funnel.specs.declared.turns.Turns.{Turns}
 use Rattle.script_rebuild.specs.declared.encoders.SourceEncoder.{SourceEncoder}
 use Rattle.script_rebuild.specs.Encoding.{ids_in, StandsFor, KeepsPlaced, flushed}

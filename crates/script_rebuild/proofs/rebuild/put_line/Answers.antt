@@ -1,4 +1,4 @@
-use Rattle.std.proofs.Common.{◌≡◌, ◌+◌, ◌≤◌, ◌∙◌, refl, sym, ap, subst, arith, Ok, Err, Result, Some}
+use Rattle.std.proofs.Common.{◌+◌, ◌∙◌, refl, sym, ap, subst, arith, Err, Result, Some}
 use Rattle.script_text.specs.declared.items.Item.TheVariants.{Itm}
 use Rattle.script_text.specs.declared.lines.Line.TheVariants.{Of}
 use Rattle.script_text.specs.declared.version_two.Line2.{Line2}

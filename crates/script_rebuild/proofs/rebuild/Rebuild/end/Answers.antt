@@ -1,7 +1,5 @@
-use Rattle.std.proofs.Common.{◌≡◌, ◌≤◌, ◌+◌, ◌*◌, ◌∙◌, ℕ, List, sym, ap, length, arith, refl, Ok, Err, Some, None, true, false, rules}
-use Rattle.std.specs.Prelude.{is_some}
+use Rattle.std.proofs.Common.{◌≤◌, ◌+◌, ◌∙◌, sym, ap, length, arith, refl}
 use Rattle.port_formatter.specs.FormatterLaws.{paid_room}
-use Rattle.script_rebuild.specs.Writer as writers
 use Rattle.script_rebuild.specs.Rebuilt.{port_of, routed_so_far}
 use Rattle.script_rebuild.proofs.Rooms.{less_room}
 use Rattle.script_rebuild.proofs.Taking.{fault_none, ended_whole, ended_before, ended_last}

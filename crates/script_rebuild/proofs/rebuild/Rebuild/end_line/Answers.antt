@@ -1,4 +1,4 @@
-use Rattle.std.proofs.Common.{◌≡◌, ◌≤◌, ◌∙◌, ◌+◌, ℕ, List, sym, ap, subst, length, arith, Some, Err}
+use Rattle.std.proofs.Common.{◌≡◌, ◌≤◌, ◌∙◌, ◌+◌, ℕ, sym, ap, subst, length, arith, Some, Err}
 use Rattle.port_formatter.specs.FormatterLaws.{paid_room}
 use Rattle.script_rebuild.specs.declared.version.Version.{Version}
 use Rattle.script_rebuild.specs.Versions.{version_after}
@@ -7,7 +7,7 @@ use Rattle.script_rebuild.specs.declared.writer.LineWriter.{LineWriter}
 use Rattle.script_rebuild.specs.declared.plan.RebuildPlan.{RebuildPlan}
 use Rattle.script_rebuild.specs.PutLine.{PutsLine, says_placed}
 use Rattle.script_rebuild.specs.Rebuilt.{port_of, routed_so_far}
-use Rattle.trace_stream.specs.Debt.{Paid, with_debt}
+use Rattle.trace_stream.specs.Debt.{Paid}
 use Rattle.script_rebuild.proofs.Rooms.{less_room}
 use Rattle.script_rebuild.proofs.RoutedSteps.{fed_routed}
 use Rattle.script_rebuild.proofs.Taking.{sound_of, open_few, said_there, refused, line_ended, gained_by, owes_kept}

@@ -1,4 +1,4 @@
-use Rattle.std.proofs.Common.{◌≡◌, refl, ◌∙◌, sym, ap, inl, inr, Ok, Err, Some, None, true, false, rules, Option}
+use Rattle.std.proofs.Common.{◌≡◌, refl, ◌∙◌, sym, ap, inl, inr, Ok, None, rules, Option}
 use Rattle.std.specs.Prelude.{is_some, option_map}
 use Rattle.script_rebuild.specs.Versions.{Reading}
 use Rattle.script_rebuild.specs.Rebuilder.{told}

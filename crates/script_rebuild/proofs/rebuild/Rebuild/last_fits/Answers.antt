@@ -1,6 +1,4 @@
-use Rattle.std.proofs.Common.{◌≡◌, ◌∙◌, ℕ, List, sym, ap, subst, Ok, Err, Result}
-use Rattle.script_text.specs.declared.version_two.Line2.{Line2}
-use Rattle.script_text.specs.declared.line_fault.LineFault.{LineFault}
+use Rattle.std.proofs.Common.{◌≡◌, ◌∙◌, ℕ, List, ap, subst, Err}
 use Rattle.std.specs.Result.{OnOk, IfErr}
 use Rattle.script_rebuild.specs.PutLine.{SaysLine, fits_after, says_placed}
 use Rattle.script_rebuild.specs.Rebuilt.{port_of}

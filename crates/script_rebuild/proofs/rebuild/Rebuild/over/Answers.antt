@@ -1,9 +1,5 @@
-use Rattle.std.proofs.Common.{◌≡◌, ℕ, List, [], refl, sym, ap, subst, Option, None, Some, ◌∙◌, true, false, length}
-use Rattle.std.specs.Prelude.{is_some, option_map}
-use Rattle.trace_funnel.specs.declared.turns.Turns.{Turns}
-use Rattle.script_text.specs.declared.version_two.Line2.{Line2}
-use Rattle.script_rebuild.specs.Rebuilt.{port_of, read_so_far}
-use Rattle.script_rebuild.specs.Routed.{routed_by}
+use Rattle.std.proofs.Common.{refl, sym, ap, subst, length}
+use Rattle.script_rebuild.specs.Rebuilt.{port_of}
 use Rattle.script_rebuild.specs.Versions.{Reading}
 use Rattle.script_rebuild.specs.Writer as writers
 use Rattle.script_rebuild.proofs.Taking.{first_read}

@@ -1,5 +1,5 @@
-use Rattle.std.proofs.Common.{◌≡◌, ℕ, ◌+◌, List, [], ◌++◌, refl, sym, ◌∙◌, ap, subst, length, length-append, true, false}
-use Rattle.std.specs.Prelude.{is_none}
+use Rattle.std.proofs.Common.{◌≡◌, ℕ, ◌+◌, List, refl, sym, ◌∙◌, ap, subst, length, length-append}
+use Rattle.std.specs.Prelude.{Bool, not}
 use Rattle.port_formatter.specs.Owed.{last_of}
 use Rattle.trace_stream.specs.Debt.{owing, with_debt}
 use Rattle.script_rebuild.specs.Rebuilt.{ending}
@@ -7,26 +7,26 @@ use Rattle.script_rebuild.specs.Rebuilder.{HasEnded, plan_of}
 use Rattle.script_rebuild.specs.Writer.{kept_by}
 use Rattle.script_rebuild.specs.declared.plan.RebuildPlan.{RebuildPlan}
 use Rattle.script_rebuild.specs.declared.rebuild.Rebuild.{Rebuild}
-use Rattle.script_rebuild.proofs.Taking.{stands_ended, all_owed, paid_writer, none_by, some_by}
+use Rattle.script_rebuild.proofs.Taking.{stands_ended, all_owed, paid_writer, owed_none}
 use Rattle.script_rebuild.proofs.rebuild.RebuildAction.finish.Goals.{then-is_none, else-is_none}
 use Rattle.script_rebuild.proofs.rebuild.RebuildAction.finish.Goals as goal
 
 pub end-requires-clause-reading : goal.end-requires-clause-reading
-end-requires-clause-reading c = none_by c.args.self.now.owed (sym c.is_none.ensures ∙ c.if-is_none.true)
+end-requires-clause-reading c = owed_none c.args.self.now.owed (c.is_none.ensures ∙ ap (λ (b : Bool). not b) c.if-is_none.true)
 
 pub end-requires-clause-paid : goal.end-requires-clause-paid
 end-requires-clause-paid c =
-    paid_writer c.args.self.now (none_by c.args.self.now.owed (sym c.is_none.ensures ∙ c.if-is_none.true)) c.requires.paid
+    paid_writer c.args.self.now (owed_none c.args.self.now.owed (c.is_none.ensures ∙ ap (λ (b : Bool). not b) c.if-is_none.true)) c.requires.paid
 
 pub returns-clause-stands : goal.returns-clause-stands
 returns-clause-stands c = λ seen s.
     let ended : HasEnded c.if-is_none.self seen = elim c.if-is_none.branch [
       | then-is_none w ↦
           subst (λ (r : Rebuild). HasEnded r seen) (sym w.self-is)
-          (w.end.ensures.ended seen (s.reads (none_by c.args.self.now.owed (sym c.is_none.ensures ∙ w.if-is_none.true))))
+          (w.end.ensures.ended seen (s.reads (owed_none c.args.self.now.owed (c.is_none.ensures ∙ ap (λ (b : Bool). not b) w.if-is_none.true))))
       | else-is_none w ↦
           subst (λ (r : Rebuild). HasEnded r seen) (sym w.self-is)
-          (s.ended (some_by c.args.self.now.owed (sym c.is_none.ensures ∙ w.if-is_none.false)))
+          (s.ended (c.is_none.ensures ∙ ap (λ (b : Bool). not b) w.if-is_none.false))
     ] in
     stands_ended _ seen _ refl (record { fault = ended.fault; kept = ended.kept })
 
@@ -36,10 +36,10 @@ returns-clause-ended c = λ seen s.
     let ended : HasEnded r seen = elim c.if-is_none.branch [
       | then-is_none w ↦
           subst (λ (r : Rebuild). HasEnded r seen) (sym w.self-is)
-          (w.end.ensures.ended seen (s.reads (none_by c.args.self.now.owed (sym c.is_none.ensures ∙ w.if-is_none.true))))
+          (w.end.ensures.ended seen (s.reads (owed_none c.args.self.now.owed (c.is_none.ensures ∙ ap (λ (b : Bool). not b) w.if-is_none.true))))
       | else-is_none w ↦
           subst (λ (r : Rebuild). HasEnded r seen) (sym w.self-is)
-          (s.ended (some_by c.args.self.now.owed (sym c.is_none.ensures ∙ w.if-is_none.false)))
+          (s.ended (c.is_none.ensures ∙ ap (λ (b : Bool). not b) w.if-is_none.false))
     ] in
     let same : r.plan ≡ c.args.self.now.plan = elim c.if-is_none.branch [
       | then-is_none w ↦ ap (λ (r : Rebuild). plan_of r) w.self-is ∙ w.end.ensures.same

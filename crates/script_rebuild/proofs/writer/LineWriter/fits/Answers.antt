@@ -1,5 +1,4 @@
-use Rattle.std.proofs.Common.{◌≡◌, sym, ap, subst, ◌∙◌, Result, Ok, Err, rules}
-use Rattle.script_text.specs.declared.lines.Line.{Line}
+use Rattle.std.proofs.Common.{◌≡◌, sym, subst, rules}
 use Rattle.script_text.specs.declared.lines.Line.TheVariants.{Of}
 use Rattle.script_text.specs.declared.version_two.Line2.{Line2}
 use Rattle.script_text.specs.declared.version_two.Line2.TheVariants.{One}

@@ -1,4 +1,4 @@
-use Rattle.std.proofs.Common.{refl, ℕ, ◌+◌, ◌≤◌, ◌∙◌, arith}
+use Rattle.std.proofs.Common.{refl, ◌+◌, ◌∙◌, arith}
 use Rattle.script_rebuild.specs.Script.{given_puts}
 use Rattle.script_rebuild.proofs.EachEncoder.{named_still}
 use Rattle.script_rebuild.proofs.Placing.{keeps_placed}

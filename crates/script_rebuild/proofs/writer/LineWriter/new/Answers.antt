@@ -1,9 +1,6 @@
-use Rattle.std.proofs.Common.{refl, ap, subst, sym, Option, None, Some, ◌≡◌, true, []}
+use Rattle.std.proofs.Common.{subst, sym}
 use Rattle.port_formatter.specs.Formatter as formatters
-use Rattle.port_formatter.specs.Segments.{no_segments}
-use Rattle.trace_funnel.specs.declared.turns.Turns.{Turns}
 use Rattle.script_rebuild.specs.Encoding.{IsRising}
-use Rattle.script_rebuild.specs.Routed.{are_placed}
 use Rattle.script_rebuild.proofs.InOrder.{in_order_rising}
 use Rattle.script_rebuild.proofs.EachEncoder.{all_named}
 use Rattle.script_rebuild.proofs.Placing.{none_placed}

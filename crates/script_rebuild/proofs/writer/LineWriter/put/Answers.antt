@@ -1,5 +1,4 @@
 use Rattle.std.proofs.Common.{refl, subst}
-use Rattle.script_text.specs.declared.lines.Line.TheVariants.{Of}
 use Rattle.script_rebuild.specs.Script.{given_puts}
 use Rattle.script_rebuild.specs.Writer.{CanBePut, stp_of}
 use Rattle.script_rebuild.proofs.Standing.{are_ready, nothing_line, item_line}

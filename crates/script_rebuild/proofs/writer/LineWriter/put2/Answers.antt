@@ -1,4 +1,4 @@
-use Rattle.std.proofs.Common.{sym, subst, ℕ, ◌+◌, ◌≤◌, arith, Ok}
+use Rattle.std.proofs.Common.{sym, subst, ◌+◌, arith, Ok}
 use Rattle.script_text.specs.declared.version_two.Line2.{Line2}
 use Rattle.script_rebuild.specs.PutLine.{PutsAfter}
 use Rattle.script_rebuild.proofs.Rooms.{less_room}

@@ -1,4 +1,4 @@
-use Rattle.std.proofs.Common.{rules, ◌≡◌, ℕ, [], ◌∷◌, refl, subst, ◌∙◌, true}
+use Rattle.std.proofs.Common.{◌≡◌, ℕ, [], ◌∷◌, refl, subst, ◌∙◌, true}
 use Rattle.port_formatter.specs.Formatter.{Puts, turns_of}
 use Rattle.port_formatter.specs.Port.{has_place}
 use Rattle.script_rebuild.specs.Script.{tagged}
