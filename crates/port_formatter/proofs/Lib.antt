@@ -2,4 +2,4 @@ pub mod StraightWays
 pub mod RingWays
 pub mod Passings
 pub mod FunnelledWays
-mod Owing
+pub mod Owing

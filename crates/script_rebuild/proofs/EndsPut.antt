@@ -1,20 +1,21 @@
 -- The bytes of the nibbles that are kept, put one after the other, and the end of the segment behind them.
-use Rattle.std.proofs.Common.{◌≡◌, ℕ, ◌+◌, ◌<◌, List, [], ◌∷◌, ◌++◌, sym, ap, ◌∙◌, subst, length, get_or, take}
+use Rattle.std.proofs.Common.{◌≡◌, refl, ℕ, ◌+◌, ◌*◌, ◌≤◌, ◌<◌, List, [], ◌∷◌, ◌++◌, sym, ap, ◌∙◌, subst, length, get_or, take}
 use Rattle.std.proofs.Common.{append_assoc, append-nil, arith}
 use Rattle.std.proofs.lemmas.List.{take_all, take_more, map-append}
 use Rattle.std.proofs.lemmas.List.Concat.{flat_map-append}
-use Rattle.std.proofs.lemmas.List.Elements.{All-nil, All-push}
+use Rattle.std.proofs.lemmas.List.Elements.{All-nil}
 use Rattle.stp_grammar.specs.declared.packet.Order.{Order}
 use Rattle.stp_encoder.specs.Puts.{Put}
 use Rattle.stp_encoder.specs.Bytes.{end_bytes}
 use Rattle.frame_writer.specs.Written.{Tagged}
-use Rattle.port_formatter.specs.Formatter.{Puts, Stands, kept_by}
+use Rattle.port_formatter.specs.Formatter.{Puts, Stands, HasRoom, count_of, kept_by, turns_of}
 use Rattle.port_formatter.specs.Port.{sure_of}
 use Rattle.port_formatter.specs.Segments.{Segments, with_bytes}
 use Rattle.port_formatter.specs.declared.formatter.Formatter.{Formatter}
 use Rattle.script_rebuild.specs.declared.encoders.SourceEncoder.{SourceEncoder}
 use Rattle.script_rebuild.specs.Script.{tagged, ends_with}
-use Rattle.script_rebuild.specs.Encoding.{ids_in, StandsFor, AllStand, flushed}
+use Rattle.script_rebuild.specs.Encoding.{ids_in, StandsFor, AllStand, KeepsPlaced, flushed}
+use Rattle.script_rebuild.proofs.Rooms.{less_room}
 
 -- bytes in the unfinished segment
 abbrev begun_with : Segments → List Tagged → Segments
@@ -61,27 +62,34 @@ ends_more order given slots i d lt =
     ∙ flat_map-append (λ (x : ℕ). tagged x (end_bytes order (given x))) ids (one.id ∷ [])
     ∙ ap (λ (l : List Tagged). ends_with order given ids ++ l) (append-nil (tagged one.id (end_bytes order (given one.id))))
 
--- the first of these encoders are flushed, and the bytes of their nibbles are put
-pub record Flushed (order : Order) (given : ℕ → List Put) (slots : List SourceEncoder) (i : ℕ)
-    (later : List SourceEncoder) (a b : Formatter) : Type 0 where
-  pub stand : AllStand order later (flushed given)
-  pub put : Puts a b (ends_with order given (ids_in (take i slots)))
-
-pub none_flushed : (order : Order) (given : ℕ → List Put) (slots : List SourceEncoder) (a : Formatter) →
-    Flushed order given slots 0 [] a a
-none_flushed order given slots a = record { stand = All-nil (StandsFor order (flushed given)); put = nothing_put a }
-
-pub one_flushed : (order : Order) (given : ℕ → List Put) (slots : List SourceEncoder) (i : ℕ) (d : SourceEncoder)
-    (later : List SourceEncoder) (next : SourceEncoder) (a b c : Formatter) → i < length slots → d ≡ get_or slots i d →
-    StandsFor order (flushed given) next → Puts b c (tagged d.id (end_bytes order (given d.id))) →
-    Flushed order given slots i later a b → Flushed order given slots (i + 1) (later ++ next ∷ []) a c
-one_flushed order given slots i d later next a b c lt is stand put before =
+-- with the bytes of one more
+pub one_put : (order : Order) (given : ℕ → List Put) (slots : List SourceEncoder) (i : ℕ) (d : SourceEncoder)
+    (a b c : Formatter) → i < length slots → d ≡ get_or slots i d →
+    Puts b c (tagged d.id (end_bytes order (given d.id))) → Puts a b (ends_with order given (ids_in (take i slots))) →
+    Puts a c (ends_with order given (ids_in (take (i + 1) slots)))
+one_put order given slots i d a b c lt is put before =
     let moved = subst (λ (s : SourceEncoder). Puts b c (tagged s.id (end_bytes order (given s.id)))) is put in
-    record {
-      stand = All-push (StandsFor order (flushed given)) later next before.stand stand;
-      put = subst (λ (l : List Tagged). Puts a c l) (sym (ends_more order given slots i d lt))
-          (puts_both a b c _ _ before.put moved);
-    }
+    subst (λ (l : List Tagged). Puts a c l) (sym (ends_more order given slots i d lt)) (puts_both a b c _ _ before moved)
+
+-- what holds while they are flushed one after the other
+pub record AreEnding (slots later : List SourceEncoder) (i : ℕ) (a b : Formatter) : Type 0 where
+  pub turns : turns_of b ≡ turns_of a
+  pub count : count_of b ≤ count_of a + i
+  pub room : (more : ℕ) → HasRoom a (2 * i + more) → HasRoom b more
+  pub ids : ids_in later ≡ ids_in (take i slots)
+  pub stand : (order : Order) (given : ℕ → List Put) → AllStand order slots given → AllStand order later (flushed given)
+  pub put : (order : Order) (given : ℕ → List Put) → AllStand order slots given →
+      ((x : ℕ) → KeepsPlaced (turns_of a) order given x) → Puts a b (ends_with order given (ids_in (take i slots)))
+
+pub none_ending : (slots : List SourceEncoder) (a : Formatter) → AreEnding slots [] 0 a a
+none_ending slots a = record {
+  turns = refl;
+  count = omega arith;
+  room = λ more h. less_room a (2 * 0 + more) more (omega arith) h;
+  ids = refl;
+  stand = λ order given stand. All-nil (StandsFor order (flushed given));
+  put = λ order given stand keeps. nothing_put a;
+}
 
 pub all_flushed : (order : Order) (given : ℕ → List Put) (slots : List SourceEncoder) (i : ℕ) (a b : Formatter) →
     i ≡ length slots → Puts a b (ends_with order given (ids_in (take i slots))) →

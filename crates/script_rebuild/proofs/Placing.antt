@@ -39,6 +39,10 @@ pub placed_by : (funnel : Option Turns) (line : Line2) (v : Bool) → is_placed 
 placed_by funnel line v e =
     let P : Bool → Result Line2 LineFault = λ b. if b then Ok line else Err Unrouted in ap P e
 
+pub none_placed : (funnel : Option Turns) → are_placed funnel [] ≡ true
+none_placed None = refl
+none_placed (Some turns) = refl
+
 -- one line more
 one_more : (order : List ℕ) (lines : List Line2) (line : Line2) → are_routed order lines ≡ true →
     is_routed order line ≡ true → are_routed order (lines ++ line ∷ []) ≡ true

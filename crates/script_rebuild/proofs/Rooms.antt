@@ -1,6 +1,6 @@
 -- How much room a formatter has.
-use Rattle.std.proofs.Common.{◌≡◌, ◌≤◌, ℕ, ◌+◌, arith}
-use Rattle.port_formatter.specs.Formatter.{HasRoom, count_of}
+use Rattle.std.proofs.Common.{◌≤◌, ℕ, arith}
+use Rattle.port_formatter.specs.Formatter.{HasRoom}
 use Rattle.port_formatter.specs.declared.formatter.Formatter.{Formatter}
 use Rattle.port_formatter.specs.declared.formatter.Formatter.TheVariants.{Straight, Funnelled}
 

@@ -32,12 +32,12 @@ use Rattle.script_rebuild.specs.declared.writer.LineWriter.{LineWriter}
 use Rattle.script_rebuild.specs.Script.{in_order}
 use Rattle.script_rebuild.specs.Segments.{sure_lines}
 use Rattle.script_rebuild.specs.Versions.{header, says, says_one, fitting}
-use Rattle.script_rebuild.specs.PutLine.{PutsLine, PutsAfter, IsFor, says_placed}
+use Rattle.script_rebuild.specs.PutLine.{PutsLine, PutsAfter, IsFor, SaysLine, says_placed}
 use Rattle.script_rebuild.specs.Rebuilt.{port_of}
 use Rattle.script_rebuild.specs.Routed.{placed, puttable, line_if}
 use Rattle.script_rebuild.specs.declared.plan.RebuildPlan.{RebuildPlan}
 use Rattle.trace_funnel.specs.declared.turns.Turns.{Turns}
-use Rattle.script_rebuild.specs.Writer.{CanBePut, stp_of}
+use Rattle.script_rebuild.specs.Writer.{CanBePut, stp_of, turns_of}
 use Rattle.script_rebuild.proofs.InOrder.{in_order_among}
 
 -- the header is no line of version 1
@@ -100,11 +100,15 @@ says_new plan lines text answer e = ap (λ r. r >>= fitting lines) (sym e)
 -- the putting of a line that the text says
 module _ (p : RebuildPlan) (version : Version) (text : List ℕ) (w new : LineWriter) (lines : List Line2) (line : Line2)
     (suits : IsFor p w) (same : says p.plan version lines text ≡ fitting lines line) where
+  said_as : (answer : Result (Unit {0}) LineFault) → puttable (turns_of w) lines line ≡ line_if answer line →
+      says_placed p version lines text ≡ line_if answer line
+  said_as answer told =
+      ap (λ (r : Result Line2 LineFault). r >>= placed p.funnel) same
+      ∙ ap (λ (f : Option Turns). puttable f lines line) (sym suits.turns) ∙ told
+
   placed_said : (answer : Result (Unit {0}) LineFault) → PutsAfter w new (port_of p) lines line answer →
       says_placed p version lines text ≡ line_if answer line
-  placed_said answer put =
-      ap (λ (r : Result Line2 LineFault). r >>= placed p.funnel) same
-      ∙ ap (λ (f : Option Turns). puttable f lines line) (sym suits.turns) ∙ put.told
+  placed_said answer put = said_as answer put.told
 
   pub puts_said : (answer : Result (Unit {0}) LineFault) → PutsAfter w new (port_of p) lines line answer →
       OnOk answer (PutsLine p version text w new lines)
@@ -122,6 +126,15 @@ module _ (p : RebuildPlan) (version : Version) (text : List ℕ) (w new : LineWr
             (subst (λ (o : Order). sure o (stp_of w) now ≡ sure o (stp_of w) lines ++ more) suits.order put.adds.grown);
       }
   puts_said (Err fault) put = tt
+
+  pub fits_said : (answer : Result (Unit {0}) LineFault) → puttable (turns_of w) lines line ≡ line_if answer line →
+      OnOk answer (SaysLine (says_placed p version lines text)) × IfErr answer (λ fault. says_placed p version lines text ≡ Err fault)
+  fits_said answer told = by answer (said_as answer told)
+    where
+      by : (r : Result (Unit {0}) LineFault) → says_placed p version lines text ≡ line_if r line →
+          OnOk r (SaysLine (says_placed p version lines text)) × IfErr r (λ fault. says_placed p version lines text ≡ Err fault)
+      by (Ok done) e = ((line, e), tt)
+      by (Err fault) e = (tt, e)
 
   pub unfit_said : (answer : Result (Unit {0}) LineFault) → PutsAfter w new (port_of p) lines line answer →
       IfErr answer (λ fault. says_placed p version lines text ≡ Err fault)

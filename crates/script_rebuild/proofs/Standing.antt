@@ -8,7 +8,7 @@ use Rattle.stp_encoder.specs.Encoder as encoders
 use Rattle.frame_writer.specs.Written.{Tagged}
 use Rattle.port_formatter.specs.Formatter as formatters
 use Rattle.port_formatter.specs.Port.{Port, sure_of, written}
-use Rattle.port_formatter.specs.Segments.{Segments, with_bytes, no_segments}
+use Rattle.port_formatter.specs.Segments.{Segments, with_bytes}
 use Rattle.port_formatter.specs.declared.formatter.Formatter.{Formatter}
 use Rattle.trace_funnel.specs.declared.turns.Turns.{Turns}
 use Rattle.script_text.specs.declared.items.Item.{Item}
@@ -24,14 +24,14 @@ use Rattle.script_rebuild.specs.declared.writer.LineWriter.{LineWriter}
 use Rattle.script_rebuild.specs.Script.{given_puts, tagged, ends_with}
 use Rattle.script_rebuild.specs.Segments.{with_line, segments_of, segments_with_ends, sure_lines}
 use Rattle.script_rebuild.specs.Versions.{fitting_item}
-use Rattle.script_rebuild.specs.Routed.{is_placed, are_placed, placed, puttable, line_if}
+use Rattle.script_rebuild.specs.Routed.{is_placed, are_placed, placed, puttable}
 use Rattle.script_rebuild.specs.ScriptLaws.{segments_more}
 use Rattle.script_rebuild.specs.Encoding.{ids_in, IsRising, AllStand, IsOfSource, NextItem, AreReady, Answers, flushed}
 use Rattle.script_rebuild.specs.Encoding.{line_for}
-use Rattle.script_rebuild.specs.PutLine.{Adds, PutsAfter, Flushes}
+use Rattle.script_rebuild.specs.PutLine.{PutsAfter, Flushes}
 use Rattle.script_rebuild.specs.Writer.{stp_of, turns_of, kept_by, Stands}
 use Rattle.script_rebuild.proofs.AllSegments.{given_more, items_put}
-use Rattle.script_rebuild.proofs.Placing.{nothing_placed, flush_placed, item_placed, trigger_placed, placed_by, places_more}
+use Rattle.script_rebuild.proofs.Placing.{nothing_placed, flush_placed, item_placed, placed_by, places_more}
 
 -- the same for what each source was given, said in another way
 all_given : (order : Order) (slots : List SourceEncoder) (given other : ℕ → List Put) →

@@ -1,8 +1,14 @@
 -- What the action takes.
 use Rattle.std.proofs.Common.{◌≡◌, ℕ, ◌+◌, ◌≤◌, List, [], ◌∷◌, ◌++◌, refl, sym, ◌∙◌, ap, subst, Bool, true, false, Option, Some, None, Result, Ok, Err, append-nil, append_assoc, length, length-append, arith, All, drop}
 use Rattle.std.specs.Prelude.{◌==◌, is_some, option_map}
+use Rattle.std.proofs.Common.{◌⊎◌, inl, inr, ◌-◌}
+use Rattle.port_formatter.proofs.Owing.{with_last}
+use Rattle.port_formatter.specs.Owed.{last_of}
 use Rattle.stp_grammar.specs.declared.packet.Order.{Order}
-use Rattle.trace_stream.specs.Debt.{Debt, Paid, owing, with_debt}
+use Rattle.source_events.specs.declared.plan.Plan.{Plan}
+use Rattle.trace_funnel.specs.declared.turns.Turns.{Turns}
+use Rattle.script_rebuild.specs.Routed.{routed_by}
+use Rattle.trace_stream.specs.Debt.{Paid, owing, with_debt}
 use Rattle.trace_stream.specs.Taken.{HasTaken, FaultAfter}
 use Rattle.trace_stream.specs.declared.limits.TheConstants.{GREATEST_CAPTURE}
 use Rattle.port_formatter.specs.Port.{written}
@@ -17,7 +23,7 @@ use Rattle.script_rebuild.specs.declared.writer.LineWriter.{LineWriter}
 use Rattle.script_rebuild.specs.declared.plan.RebuildPlan.{RebuildPlan}
 use Rattle.script_rebuild.specs.declared.plan.ScriptFault.{ScriptFault}
 use Rattle.script_rebuild.specs.declared.rebuild.Rebuild.{Rebuild}
-use Rattle.script_rebuild.specs.Rebuilt.{IsFaulty, open_line, port_of, routed_so_far, routed_script, text, ending, left_of}
+use Rattle.script_rebuild.specs.Rebuilt.{IsFaulty, open_line, port_of, read_so_far, routed_so_far, routed_script, text, ending, left_of}
 use Rattle.script_rebuild.specs.Rebuilt.{capture_of, script_capture, rebuild_meaning}
 use Rattle.script_rebuild.specs.PutLine.{PutsLine, Flushes, IsFor, says_placed}
 use Rattle.script_rebuild.specs.Rebuilder.{told, debt_with, debt_of, Reads, HasEnded, Stands, TakesByte, Feeds}
@@ -47,7 +53,20 @@ paid_still r w held reading same paid =
     ∙ ap (λ (v : LineWriter). with_debt held (writers.debt_of v)) same
     ∙ ap (with_debt held) paid ∙ sym (append-nil held)
 
+-- while it reads it owes what its writer owes
+pub owes_kept : (owed : Option ℕ) (w : LineWriter) (held : List ℕ) → owed ≡ None →
+    with_debt held (debt_with owed (writers.kept_by w)) ≡ with_debt held (writers.debt_of w)
+owes_kept owed w held reading = ap (λ (o : Option ℕ). with_debt held (debt_with o (writers.kept_by w))) reading
+
 -- == While it reads
+
+-- no bytes have no line
+first_by : (funnel : Option Turns) (plan : Plan) → routed_by funnel (read_so_far plan []) ≡ record { lines = []; fault = None }
+first_by None plan = refl
+first_by (Some turns) plan = refl
+
+pub first_read : (p : RebuildPlan) → routed_so_far p [] ≡ record { lines = []; fault = None }
+first_read p = first_by p.funnel p.plan
 
 pub sound_of : (r : Rebuild) (seen : List ℕ) → Reads r seen → r.fault ≡ None → (routed_so_far r.plan seen).fault ≡ None
 sound_of r seen s live = sym s.fault ∙ ap (option_map told) live
@@ -160,6 +179,10 @@ is_faulty r seen s = some_of r.fault (routed_so_far r.plan seen).fault s.fault
 pub fault_none : (f : Option ScriptFault) → is_some f ≡ false → f ≡ None
 fault_none None h = refl
 fault_none (Some f) h = cc
+
+pub owed_none : (o : Option ℕ) → is_some o ≡ false → o ≡ None
+owed_none None h = refl
+owed_none (Some owed) h = cc
 
 -- a reader of this plan tells by its fault whether these bytes have one
 faulty_is : (r : Rebuild) (p : RebuildPlan) (seen : List ℕ) → r.plan ≡ p → Reads r seen → is_some (routed_so_far p seen).fault ≡ is_some r.fault
@@ -372,3 +395,45 @@ line_taken old new line before after is_faulty same reading e takes = record {
       let t = takes seen s in
       byte_taken t.mid new old.plan seen line (line ++ 10 ∷ []) 10 before after t.same (same ∙ sym t.same) t.live refl t.reads t.read t.takes is_faulty e;
 }
+
+-- == Either way
+
+pub reads_there : (r : Rebuild) (seen : List ℕ) → r.owed ≡ None → Stands r seen → Reads r seen
+reads_there r seen reading s = s.reads reading
+
+pub stands_reading : (r : Rebuild) (seen : List ℕ) → r.owed ≡ None → Reads r seen → Stands r seen
+stands_reading r seen reading s = record {
+  reads = λ e. s;
+  ended = λ h. absurd (let no = sym (ap (λ (o : Option ℕ). is_some o) reading) ∙ h in cc);
+}
+
+pub stands_ended : (r : Rebuild) (seen : List ℕ) (owed : ℕ) → r.owed ≡ Some owed → HasEnded r seen → Stands r seen
+stands_ended r seen owed is s = record {
+  reads = λ e. absurd (let no = sym is ∙ e in cc);
+  ended = λ h. s;
+}
+
+-- the fault that is kept is the script's, if the script has ended or a line had a fault
+pub kept_fault : (r : Rebuild) (seen : List ℕ) → (is_some r.owed ≡ true) ⊎ (is_some r.fault ≡ true) → Stands r seen →
+    option_map told r.fault ≡ (routed_script r.plan seen).fault
+kept_fault r seen (inl ended) s = (s.ended ended).fault
+kept_fault r seen (inr faulty) s = by r.owed refl
+  where
+    by : (o : Option ℕ) → r.owed ≡ o → option_map told r.fault ≡ (routed_script r.plan seen).fault
+    by None e = settled_fault r seen (s.reads e) faulty
+    by (Some owed) e = (s.ended (ap (λ (o : Option ℕ). is_some o) e)).fault
+
+none_over : (n : ℕ) → n - n ≡ 0
+none_over n = omega arith
+
+whole_last : (l : List ℕ) → last_of (length l) l ≡ l
+whole_last l = ap (λ (n : ℕ). drop n l) (none_over (length l))
+
+-- all that is kept is owed
+pub all_owed : (kept : List ℕ) (owed : ℕ) → owed ≡ length kept → with_debt [] (debt_with (Some owed) kept) ≡ kept
+all_owed kept owed e =
+    ap (λ (n : ℕ). with_debt [] (debt_with (Some n) kept)) e ∙ with_last [] kept (length kept) ∙ whole_last kept
+
+-- while it reads its writer owes nothing where it doesn't
+pub paid_writer : (r : Rebuild) → r.owed ≡ None → debt_of r ≡ Paid → writers.debt_of r.writer ≡ Paid
+paid_writer r reading paid = ap (λ (o : Option ℕ). debt_with o (writers.kept_by r.writer)) (sym reading) ∙ paid

@@ -2,7 +2,6 @@
 use Rattle.std.specs.Prelude.{◌≡◌, ◌≤◌, ℕ, List, [], ◌∷◌, ◌++◌, length, Option, IfSome, Result, Ok}
 use Rattle.std.specs.Result.{OnOk}
 use Rattle.port_formatter.specs.Port.{Port, written}
-use Rattle.source_events.specs.declared.plan.Plan.{Plan}
 use Rattle.script_text.specs.declared.version_two.Line2.{Line2}
 use Rattle.script_text.specs.declared.version_two.Line2.TheVariants.{Flush}
 use Rattle.script_text.specs.declared.line_fault.LineFault.{LineFault}

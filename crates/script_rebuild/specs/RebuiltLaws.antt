@@ -11,7 +11,7 @@ use Rattle.script_rebuild.specs.Script.{in_order}
 use Rattle.script_rebuild.specs.Routed.{routed_by}
 use Rattle.script_rebuild.specs.RoutedLaws.{settled_by, end_settled, lines_extend}
 use Rattle.script_rebuild.specs.Segments.{sure_lines}
-use Rattle.script_rebuild.specs.Versions.{Reading, script_of}
+use Rattle.script_rebuild.specs.Versions.{Reading}
 use Rattle.script_rebuild.specs.ScriptLaws.{sure_more}
 use Rattle.script_rebuild.specs.declared.plan.RebuildPlan.{RebuildPlan}
 use Rattle.script_rebuild.specs.Rebuilt.{read_so_far, port_of, routed_so_far, routed_script, text, left_of, script_capture}

@@ -136,10 +136,10 @@ pub(crate) fn item_fits(
         line_for (turns_of formatter.now) next ≡ line_if result (One (Of id item.now)) }
 {
     match item {
-        Item::Stp(item) => {
-            stp_fits(encoders.as_slice(), id, item)?;
-            place_fits(formatter, id)
-        }
+        Item::Stp(item) => match stp_fits(encoders.as_slice(), id, item) {
+            Ok(()) => place_fits(formatter, id),
+            Err(fault) => Err(fault),
+        },
         _ => place_fits(formatter, id),
     }
 }
@@ -171,14 +171,20 @@ pub(crate) fn put_item(
         return item_fits(encoders, formatter, id, item);
     }
     match item {
-        Item::Itm(packet) => put_packet(formatter, id, packet),
+        Item::Itm(packet) => {
+            put_packet(formatter, id, packet);
+            Ok(())
+        }
         Item::Dwt(item) => {
             let (disc, size, value) = packet_of(item);
             let packet = ItmPacket::Hardware { disc, size, value };
             put_packet(formatter, id, &packet);
+            Ok(())
         }
-        Item::Stp(item) => return put_stp(encoders.as_mut_slice(), formatter, id, item),
-        Item::Raw(raw) => formatter.put_all(id, raw.as_slice()),
+        Item::Stp(item) => put_stp(encoders.as_mut_slice(), formatter, id, item),
+        Item::Raw(raw) => {
+            formatter.put_all(id, raw.as_slice());
+            Ok(())
+        }
     }
-    Ok(())
 }

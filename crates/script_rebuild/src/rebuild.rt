@@ -186,10 +186,10 @@ impl Rebuild {
         ensures plan { IfOk result (λ r. plan_of r ≡ plan) }
         ensures fresh { IfOk result (λ r. Stands r [] × (taken_by r ≡ 0) × (debt_of r ≡ Paid) × IsLive r) }
     {
-        let formatter = match &plan.funnel {
-            Some(turns) => Formatter::through(alloc, plan.every, plan.halves, turns)?,
-            None => Formatter::new(plan.every, plan.halves),
+        let Some(turns) = &plan.funnel else {
+            return Ok(Rebuild::new(plan));
         };
+        let formatter = Formatter::through(alloc, plan.every, plan.halves, turns)?;
         Ok(Rebuild::over(plan, formatter))
     }
 
@@ -223,8 +223,11 @@ impl Rebuild {
         ensures { (seen : List ℕ) → Stands self.now seen →
             option_map told result ≡ (routed_script (plan_of self.now) seen).fault }
     {
-        if self.owed.is_some() || self.fault.is_some() {
-            return self.fault;
+        if let Some(fault) = self.fault {
+            return Some(fault);
+        }
+        if self.owed.is_some() {
+            return None;
         }
         match self.last_fits() {
             Ok(()) => None,
@@ -237,6 +240,7 @@ impl Rebuild {
 
     /// Whether what the open line says can be put, if it is the last.
     fn last_fits(&self) -> Result<(), LineFault>
+        ensures few { open_len self.now ≤ 256 }
         ensures ok { (lines : List Line2) → StandsForLines self.now.writer (port_of self.now.plan) lines →
             OnOk result (SaysLine (says_placed self.now.plan self.now.version lines self.now.line.items)) }
         ensures err { (lines : List Line2) → StandsForLines self.now.writer (port_of self.now.plan) lines →

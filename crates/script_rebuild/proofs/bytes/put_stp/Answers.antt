@@ -1,49 +1,66 @@
-use Rattle.std.proofs.Common.{◌≡◌, ℕ, List, sym, ◌∙◌, ap, subst, Bool, true, false, Ok, Err, None}
+use Rattle.std.proofs.Common.{◌≡◌, refl, ℕ, ◌+◌, ◌*◌, ◌≤◌, List, length, sym, ◌∙◌, ap, subst, true, false, None, arith, rules}
 use Rattle.std.specs.List.{position}
-use Rattle.std.specs.Prelude.{◌==◌, if◌then◌else◌}
+use Rattle.std.specs.Prelude.{◌==◌}
 use Rattle.stp_grammar.specs.declared.packet.Order.{Order}
 use Rattle.stp_encoder.specs.Bytes.{put_bytes}
+use Rattle.port_formatter.specs.Formatter.{Puts, turns_of}
 use Rattle.script_text.specs.declared.items.Item.TheVariants.{Stp}
-use Rattle.script_text.specs.declared.line_fault.LineFault.TheVariants.{Unfit}
 use Rattle.script_rebuild.specs.Script.{tagged}
-use Rattle.script_rebuild.specs.Putting.{Puts}
 use Rattle.script_rebuild.specs.Encoding.{NextItem}
+use Rattle.script_rebuild.proofs.Answering.{stp_line, item_placed_by}
 use Rattle.script_rebuild.proofs.EachEncoder.{none_of, ids_kept, found_of, stands_of, all_after}
+use Rattle.script_rebuild.proofs.Rooms.{less_room}
 use Rattle.script_rebuild.proofs.bytes.put_stp.Goals as goal
 
 pub returns-in_default-clause-puts : goal.returns-in_default-clause-puts
-returns-in_default-clause-puts c = λ order given line ready.
+returns-in_default-clause-puts c = λ order given ready.
     let none : position (λ e. e.id == c.args.id) c.args.encoders.now ≡ None = sym c.find.ensures ∙ c.in_default.is in
     let clash : true ≡ false = sym ready.source ∙ none_of c.args.encoders.now c.args.id none in
     absurd cc
 
+pub returns-in_default-clause-room : goal.returns-in_default-clause-room
+returns-in_default-clause-room c = λ more h. less_room c.args.formatter.now (200 + more) more (omega arith) h
+
+pub put_all-requires-clause-room : goal.put_all-requires-clause-room
+put_all-requires-clause-room c =
+    let few : length c.as_slice.result.now ≤ 24 = search rules in
+    less_room c.args.formatter.now 200 (2 * length c.as_slice.result.now) (omega (arith, few)) c.requires.room
+
 pub returns-in-Ok-clause-ids : goal.returns-in-Ok-clause-ids
 returns-in-Ok-clause-ids c = ids_kept c.args.encoders.now c.in-Some.index c.index-encoders-index.result c.put.new.self
 
+pub returns-in-Ok-clause-room : goal.returns-in-Ok-clause-room
+returns-in-Ok-clause-room c = λ more h.
+    let few : length c.as_slice.result.now ≤ 24 = search rules in
+    c.put_all.ensures.room more
+    (less_room c.args.formatter.now (200 + more) (2 * length c.as_slice.result.now + more) (omega (arith, few)) h)
+
 pub returns-in-Ok-clause-puts : goal.returns-in-Ok-clause-puts
-returns-in-Ok-clause-puts c = λ order given line ready.
+returns-in-Ok-clause-puts c = λ order given ready.
     let slots = c.args.encoders.now in
     let id = c.args.id in
     let i = c.in-Some.index in
     let item = c.args.item.now in
     let one = c.index-encoders-index.result in
+    let funnel = turns_of c.args.formatter.now in
     let next : NextItem = record { order = order; given = given; id = id; item = Stp item } in
     let found = found_of slots id i one (sym c.find.ensures ∙ c.in-Some.is) in
     let stands = stands_of next slots i one ready found.0 found.1 in
     let bytes = c.as_slice.ensures.value ∙ c.in-Ok.ensures.bytes (given id) stands.1
     ∙ ap (λ (o : Order). put_bytes o (given id) item) stands.0 in
     record {
-      fits = ap (λ (b : Bool). if b then Err Unfit else Ok line) (sym (c.in-Ok.ensures.fits (given id) stands.1));
-      unfit = tt;
+      told = stp_line funnel next item false refl (sym (c.in-Ok.ensures.fits (given id) stands.1))
+          ∙ item_placed_by funnel id (Stp item) true c.requires.place;
       put = record {
+        place = c.requires.place;
         stand = all_after order slots given id i item one c.put.new.self ready found.0 found.1 (c.put.ensures.order ∙ stands.0)
             (c.in-Ok.ensures.list (given id) stands.1);
-        put = subst (λ (b : List ℕ). Puts c.args.frames.now c.put_bytes.new.frames (tagged id b) c.put_bytes.new.out.items) bytes c.put_bytes.ensures.put;
+        put = subst (λ (b : List ℕ). Puts c.args.formatter.now c.put_all.new.self (tagged id b)) bytes c.put_all.ensures.put;
       };
     }
 
 pub returns-in-Err-clause-puts : goal.returns-in-Err-clause-puts
-returns-in-Err-clause-puts c = λ order given line ready.
+returns-in-Err-clause-puts c = λ order given ready.
     let slots = c.args.encoders.now in
     let id = c.args.id in
     let i = c.in-Some.index in
@@ -52,7 +69,9 @@ returns-in-Err-clause-puts c = λ order given line ready.
     let found = found_of slots id i one (sym c.find.ensures ∙ c.in-Some.is) in
     let stands = stands_of next slots i one ready found.0 found.1 in
     record {
-      fits = tt;
-      unfit = ap (λ (b : Bool). if b then Err Unfit else Ok line) (sym (c.in-Err.ensures.fits (given id) stands.1));
+      told = stp_line (turns_of c.args.formatter.now) next c.args.item.now true refl (sym (c.in-Err.ensures.fits (given id) stands.1));
       put = tt;
     }
+
+pub returns-in-Err-clause-room : goal.returns-in-Err-clause-room
+returns-in-Err-clause-room c = λ more h. less_room c.args.formatter.now (200 + more) more (omega arith) h

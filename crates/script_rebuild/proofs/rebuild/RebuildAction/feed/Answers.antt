@@ -5,6 +5,7 @@ use Rattle.script_text.specs.declared.quick.PacketLine.{PacketLine}
 use Rattle.script_text.specs.Quick.{IsFirstLine, IsPacketOf}
 use Rattle.script_rebuild.specs.Rebuilder.{Feeds}
 use Rattle.script_rebuild.proofs.Sources.{there}
+use Rattle.script_rebuild.proofs.Taking.{taken_so}
 use Rattle.script_rebuild.proofs.FirstLines.{first_plain, first_says, first_ended}
 use Rattle.script_rebuild.proofs.rebuild.RebuildAction.feed.Goals as goal
 
@@ -16,7 +17,8 @@ returns-then-piece-len-eq10-clause-fed c = λ seen s.
     let front : take n piece ++ 10 ∷ [] ≡ take c.take_line-then-piece-len-eq10.result.bytes piece =
     ap (λ (b : ℕ). take n piece ++ b ∷ []) (sym c.if-piece-len-eq10.true) ∙ sym (take_more piece n 0 c.if-len-piece.true) ∙ ap (λ (k : ℕ). take k piece) (sym bytes) in
     let line = c.take_line-then-piece-len-eq10 in
-    (subst (λ l. Feeds c.args.self.now line.new.self l c.args.outlet.now line.new.outlet line.result.is_faulty) front line.ensures.fed).fed seen s
+    let fed = subst (λ l. Feeds c.args.self.now line.new.self l c.args.outlet.now line.new.outlet line.result.is_faulty) front line.ensures.fed in
+    taken_so line.new.self c.args.self.now.plan seen _ _ _ line.result.is_faulty fed.reading (fed.fed seen (s.reads c.requires.live.reading))
 
 pub take_line-requires-clause-plain : goal.take_line-requires-clause-plain
 take_line-requires-clause-plain c =
@@ -35,5 +37,12 @@ pub returns-in-Some-clause-fed : goal.returns-in-Some-clause-fed
 returns-in-Some-clause-fed c = λ seen s.
     let first = there (IsFirstLine c.args.piece.now) c.packet_line-found.result c.in-Some.line c.in-Some.is c.packet_line-found.ensures in
     let line = c.take_line in
-    (subst (λ l. Feeds c.args.self.now line.new.self l c.args.outlet.now line.new.outlet line.result.is_faulty)
-    (first_ended c.args.piece.now c.in-Some.line first line.result.bytes line.ensures.bytes) line.ensures.fed).fed seen s
+    let fed = subst (λ l. Feeds c.args.self.now line.new.self l c.args.outlet.now line.new.outlet line.result.is_faulty)
+    (first_ended c.args.piece.now c.in-Some.line first line.result.bytes line.ensures.bytes) line.ensures.fed in
+    taken_so line.new.self c.args.self.now.plan seen _ _ _ line.result.is_faulty fed.reading (fed.fed seen (s.reads c.requires.live.reading))
+
+pub returns-clause-fed : goal.returns-clause-fed
+returns-clause-fed c = λ seen s.
+    let open_ = c.feed_open in
+    let fed = open_.ensures.fed in
+    taken_so open_.new.self c.args.self.now.plan seen _ _ _ open_.result.is_faulty fed.reading (fed.fed seen (s.reads c.requires.live.reading))

@@ -1,0 +1,46 @@
+use Rattle.std.proofs.Common.{◌≤◌, ◌+◌, ◌∙◌, sym, ap, length, arith, refl}
+use Rattle.port_formatter.specs.FormatterLaws.{paid_room}
+use Rattle.script_rebuild.specs.Rebuilt.{port_of, routed_so_far}
+use Rattle.script_rebuild.proofs.Rooms.{less_room}
+use Rattle.script_rebuild.proofs.Taking.{fault_none, ended_whole, ended_before, ended_last}
+use Rattle.script_rebuild.proofs.rebuild.Rebuild.end.Goals as goal
+
+pub put_line-requires-clause-count : goal.put_line-requires-clause-count
+put_line-requires-clause-count c =
+    let r = c.args.self.now in omega (arith, r.frames c.requires.reading, r.small)
+
+pub put_line-requires-clause-room : goal.put_line-requires-clause-room
+put_line-requires-clause-room c =
+    let w = c.args.self.now.writer.formatter in less_room w 226 200 (omega arith) (paid_room w c.requires.paid)
+
+pub flush-requires-clause-count : goal.flush-requires-clause-count
+flush-requires-clause-count c =
+    let r = c.args.self.now in omega (arith, r.frames c.requires.reading, r.small, c.put_line.ensures.count)
+
+pub flush-requires-clause-room : goal.flush-requires-clause-room
+flush-requires-clause-room c =
+    let w = c.args.self.now.writer.formatter in
+    c.put_line.ensures.room 23 (less_room w 226 (200 + 23) (omega arith) (paid_room w c.requires.paid))
+
+pub returns-then-is_some-clause-ended : goal.returns-then-is_some-clause-ended
+returns-then-is_some-clause-ended c = λ seen s.
+    ended_before c.args.self.now _ seen refl refl refl c.requires.paid (sym c.is_some.ensures ∙ c.if-is_some.true) s
+
+pub returns-in-Ok-clause-ended : goal.returns-in-Ok-clause-ended
+returns-in-Ok-clause-ended c = λ seen s.
+    let r = c.args.self.now in
+    let lines = (routed_so_far r.plan seen).lines in
+    let live = fault_none r.fault (sym c.is_some.ensures ∙ c.if-is_some.false) in
+    let few : length r.line.items ≤ 256 = omega (arith, c.as_slice.ensures.fits, ap length c.as_slice.ensures.value) in
+    let puts = c.in-Ok.ensures.ok lines s.writer in
+    ended_whole r _ c.put_line.new.writer seen c.as_slice.result.now refl live c.requires.paid s live few c.as_slice.ensures.value puts
+    c.put_line.ensures.plan (c.flush.ensures.puts (port_of r.plan) _ puts.stands)
+
+pub returns-in-Err-clause-ended : goal.returns-in-Err-clause-ended
+returns-in-Err-clause-ended c = λ seen s.
+    let r = c.args.self.now in
+    let lines = (routed_so_far r.plan seen).lines in
+    let live = fault_none r.fault (sym c.is_some.ensures ∙ c.if-is_some.false) in
+    let few : length r.line.items ≤ 256 = omega (arith, c.as_slice.ensures.fits, ap length c.as_slice.ensures.value) in
+    ended_last r _ seen c.as_slice.result.now c.in-Err.fault refl refl c.in-Err.ensures.same c.requires.paid s live few c.as_slice.ensures.value
+    (c.in-Err.ensures.err lines s.writer)

@@ -1,0 +1,11 @@
+use Rattle.std.proofs.Common.{sym, subst, Option}
+use Rattle.port_formatter.specs.Formatter.{Stands}
+use Rattle.port_formatter.specs.Segments.{no_segments}
+use Rattle.trace_funnel.specs.declared.turns.Turns.{Turns}
+use Rattle.script_rebuild.proofs.rebuild.Rebuild.through.Goals as goal
+
+pub over-requires-clause-fresh : goal.over-requires-clause-fresh
+over-requires-clause-fresh c =
+    let p = c.args.plan in
+    subst (λ (o : Option Turns). Stands c.in_ok-formatter.formatter (record { every = p.every; halves = p.halves; funnel = o }) no_segments)
+    (sym c.in-Some.is) c.in_ok-formatter.ensures.stands

@@ -1,0 +1,28 @@
+use Rattle.std.proofs.Common.{sym, subst, ◌+◌, arith, Ok}
+use Rattle.script_text.specs.declared.version_two.Line2.{Line2}
+use Rattle.script_rebuild.specs.PutLine.{PutsAfter}
+use Rattle.script_rebuild.proofs.Rooms.{less_room}
+use Rattle.script_rebuild.proofs.Standing.{flush_after}
+use Rattle.script_rebuild.proofs.writer.LineWriter.put2.Goals as goal
+
+pub returns-in-One-clause-puts : goal.returns-in-One-clause-puts
+returns-in-One-clause-puts c = λ port lines s.
+    subst (λ (l : Line2). PutsAfter c.args.self.now c.put.new.self port lines l c.put.result) (sym c.in-One.is)
+    (c.put.ensures.puts port lines s)
+
+pub flush-requires-clause-room : goal.flush-requires-clause-room
+flush-requires-clause-room c = less_room c.args.self.now.formatter 200 23 (omega arith) c.requires.room
+
+pub returns-in-Flush-clause-puts : goal.returns-in-Flush-clause-puts
+returns-in-Flush-clause-puts c = λ port lines s.
+    subst (λ (l : Line2). PutsAfter c.args.self.now c.flush.new.self port lines l (Ok tt)) (sym c.in-Flush.is)
+    (flush_after c.args.self.now c.flush.new.self port lines (c.flush.ensures.puts port lines s))
+
+pub returns-in-Flush-clause-room : goal.returns-in-Flush-clause-room
+returns-in-Flush-clause-room c = λ more h.
+    c.flush.ensures.room more (less_room c.args.self.now.formatter (200 + more) (23 + more) (omega arith) h)
+
+pub returns-in-Trigger-clause-puts : goal.returns-in-Trigger-clause-puts
+returns-in-Trigger-clause-puts c = λ port lines s.
+    subst (λ (l : Line2). PutsAfter c.args.self.now c.put_trigger.new.self port lines l c.put_trigger.result) (sym c.in-Trigger.is)
+    (c.put_trigger.ensures.puts port lines s)
