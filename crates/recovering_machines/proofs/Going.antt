@@ -1,11 +1,11 @@
 -- Units without a fault are one more part of the present stretch.
 use Rattle.std.proofs.Common.{◌≡◌, ℕ, List, [], ◌∷◌, ◌++◌, map, refl, sym, ◌∙◌, ap, append_assoc, append-nil}
-use Rattle.std.proofs.Common.{Option, None, Some, Bool, true, false}
+use Rattle.std.proofs.Common.{Option, None, Some, Bool}
 use Rattle.std.specs.Prelude.{flat_map, is_none}
 use Rattle.std.proofs.lemmas.List.{map-append}
 use Rattle.trace_values.specs.declared.fault.Reason.{Reason}
 use Rattle.trace_values.specs.Placed.{Place, Placed}
-use Rattle.trace_values.specs.Stream.{Said, Kept, Stream}
+use Rattle.trace_values.specs.Stream.{Stream}
 use Rattle.trace_values.specs.Taking.{given_after, item_at}
 use Rattle.trace_values.specs.Walk.{by_unit}
 use Rattle.trace_values.proofs.Modes as modes
@@ -26,7 +26,6 @@ use Rattle.source_events.specs.declared.plan.SourceKind.{SourceKind}
 use Rattle.source_events.specs.declared.plan.SourceKind.TheVariants.{Itm, Stp}
 use Rattle.source_events.proofs.Lawful.{settled_as}
 use Rattle.source_machine.specs.Units.{reads_by}
-use Rattle.stretch_readings.specs.declared.heard.Heard.{Heard}
 use Rattle.stretch_readings.specs.Stretches.{One, Stretches, broken, fed_from, from_fault, heard, heard_of, told}
 use Rattle.stretch_readings.specs.Words.{IsSettling}
 use Rattle.stretch_readings.proofs.Feeding.{longer, one_goes}

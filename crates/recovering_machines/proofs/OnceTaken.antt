@@ -1,6 +1,5 @@
 -- Bytes of a source that are taken at once.
-use Rattle.std.proofs.Common.{◌≡◌, ℕ, ◌+◌, List, [], ◌∷◌, ◌++◌, map, refl, sym, ◌∙◌, ap, subst, Option, None, Some, Bool}
-use Rattle.std.proofs.Common.{append-nil}
+use Rattle.std.proofs.Common.{◌≡◌, ℕ, List, [], ◌∷◌, ◌++◌, map, refl, sym, ◌∙◌, ap, subst, Option, None, Some, Bool}
 use Rattle.std.specs.List.{sum_by}
 use Rattle.std.specs.Prelude.{IfSome}
 use Rattle.trace_values.specs.declared.cell.Cell.{Cell}
@@ -22,7 +21,7 @@ use Rattle.stp_grammar.specs.declared.packet.Order.TheVariants.{Msn}
 use Rattle.stp_codec.specs.Decoder as stp
 use Rattle.recovering_machines.specs.AtOnce.{PassesBytes, TakesCells, said_at}
 use Rattle.recovering_machines.specs.Run.{units_in, with_run}
-use Rattle.recovering_machines.specs.Source.{Keeps, Stands, heard_by}
+use Rattle.recovering_machines.specs.Source.{Stands, heard_by}
 use Rattle.recovering_machines.specs.declared.source.RecoveringSource.{RecoveringSource}
 use Rattle.recovering_machines.proofs.Going.{all_go, given_more, sources_settle}
 

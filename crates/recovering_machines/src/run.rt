@@ -72,7 +72,10 @@ fn hear_packet<V: Hearer>(
     ensures room { V.room (out.old, to.old) ≤ V.room (out.new, to.new) + 1 }
 {
     if let Some(packet) = item {
-        out.hear(to, event_at(id, at, half, What::Packet(Heard::Read(packet))));
+        out.hear(
+            to,
+            event_at(id, at, half, What::Packet(Heard::Read(packet))),
+        );
     }
 }
 

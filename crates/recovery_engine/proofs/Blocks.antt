@@ -1,10 +1,9 @@
 -- Bytes of the port that are taken at once: all but the last add nothing.
 use Rattle.std.proofs.Common.{◌≡◌, ◌≢◌, ℕ, ◌+◌, ◌-◌, List, [], ◌∷◌, ◌++◌, refl, sym, ◌∙◌, ap, subst, arith}
-use Rattle.std.proofs.Common.{append_assoc, append-nil, length, None, Option}
+use Rattle.std.proofs.Common.{append_assoc, append-nil, length, None}
 use Rattle.std.proofs.lemmas.List.{length_push}
 use Rattle.trace_values.specs.declared.cell.Cell.{Cell}
-use Rattle.trace_values.specs.declared.fault.Reason.{Reason}
-use Rattle.trace_values.specs.Placed.{Place, Placed, byte_at, placed_from}
+use Rattle.trace_values.specs.Placed.{Placed, byte_at, placed_from}
 use Rattle.trace_values.specs.declared.reading_modes.FramesMode.{FramesMode}
 use Rattle.trace_values.specs.declared.reading_modes.FramesMode.TheVariants.{Hunt, Aligned, Bare}
 use Rattle.deformatter.specs.Block as block
@@ -22,7 +21,7 @@ use Rattle.recovering_machines.proofs.Feeding as feeding
 use Rattle.recovering_machines.proofs.Feeding.{none_before, quiet_goes}
 use Rattle.recovery_report.specs.Counts.{CountsGrow}
 use Rattle.recovery_report.specs.Port.{of_stretches, port_stretches, recovered}
-use Rattle.recovery_report.specs.Report.{Part, parts_in}
+use Rattle.recovery_report.specs.Report.{parts_in}
 use Rattle.recovery_report.specs.Words.{parts_by}
 use Rattle.recovery_report.proofs.CountLaws as count_laws
 use Rattle.recovery_report.proofs.PortLaws as port_laws

@@ -28,7 +28,7 @@ use Rattle.recovery_report.specs.Port.{PortStretch, of_stretches, port_stretches
 use Rattle.recovery_report.specs.Report.{Part, mode_by, source_tails, stretches_of, tail_by, tail_of}
 use Rattle.recovery_engine.specs.Ends.{EndsAs, end_of}
 use Rattle.recovery_engine.specs.Port.{PortStands}
-use Rattle.recovery_engine.specs.Slots.{IsSource, StandsAt, StandFor, source_at, total}
+use Rattle.recovery_engine.specs.Slots.{IsSource, StandsAt, source_at, total}
 use Rattle.recovery_engine.specs.declared.ends.PortEnd.{PortEnd}
 use Rattle.recovery_engine.specs.declared.slot.RecoveringSlot.{RecoveringSlot}
 

@@ -1,5 +1,5 @@
 -- More bytes of the port.
-use Rattle.std.proofs.Common.{◌≡◌, ◌≢◌, ℕ, ◌+◌, List, [], ◌∷◌, ◌++◌, refl, sym, ◌∙◌, ap, subst}
+use Rattle.std.proofs.Common.{◌≡◌, ℕ, ◌+◌, List, [], ◌∷◌, ◌++◌, refl, sym, ◌∙◌, ap, subst}
 use Rattle.std.proofs.Common.{append-nil, append_assoc, arith, drop, get_or, length, map, suc, take, zero, ◌<◌, ◌-◌}
 use Rattle.std.proofs.lemmas.Grind.{flat_map-append}
 use Rattle.std.proofs.lemmas.List.{length-take-le, map-append, take_more}
@@ -7,11 +7,10 @@ use Rattle.trace_values.specs.declared.cell.Cell.{Cell}
 use Rattle.trace_values.specs.Placed.{Placed, byte_at, placed_from}
 use Rattle.trace_values.proofs.Placing.{placed_from_push}
 use Rattle.trace_values.specs.declared.reading_modes.FramesMode.{FramesMode}
-use Rattle.trace_values.specs.declared.reading_modes.FramesMode.TheVariants.{Hunt, Aligned, Bare}
+use Rattle.trace_values.specs.declared.reading_modes.FramesMode.TheVariants.{Bare}
 use Rattle.deformatter.specs.declared.step.PortStep.{PortStep}
 use Rattle.deformatter.specs.declared.step.PortStep.TheVariants.{Quiet, Half, Full as FullEnds, Frame, Locked}
 use Rattle.deformatter.specs.declared.step.PortStep.TheVariants.{Fault as Faulty}
-use Rattle.deformatter.specs.Reading.{cells_in, port_stream}
 use Rattle.deformatter.specs.Modes.{hunts}
 use Rattle.deformatter.specs.PortReading.{bare_cell}
 use Rattle.source_events.specs.declared.event.Event.{Event}
@@ -20,16 +19,11 @@ use Rattle.source_events.specs.declared.plan.Plan.{Plan}
 use Rattle.source_events.specs.Runs.{all_runs, bytes_of, runs_of}
 use Rattle.stretch_readings.specs.declared.heard.Heard.{Heard}
 use Rattle.stretch_readings.proofs.StretchLaws.{from_append}
-use Rattle.stretch_readings.specs.Stretches.{One, Stretches, fed, fed_from, before}
-use Rattle.recovering_machines.specs.Port as ports
-use Rattle.recovering_machines.specs.Port.{items_by, from_halfword, raised, Answers}
-use Rattle.recovering_machines.specs.declared.port.RecoveringPort.{RecoveringPort}
-use Rattle.recovering_machines.proofs.Feeding.{none_before}
-use Rattle.recovery_report.specs.Port.{port_stretches, recovered, of_stretches}
+use Rattle.stretch_readings.specs.Stretches.{One, fed, fed_from, before}
+use Rattle.recovering_machines.specs.Port.{items_by, from_halfword, raised}
+use Rattle.recovery_report.specs.Port.{port_stretches, recovered}
 use Rattle.recovery_report.specs.Report.{Part, Run, Locks, parts_in, report, report_from}
 use Rattle.recovery_report.specs.Words.{AreOf, parts_by, singles}
-use Rattle.recovery_report.proofs.PortLaws as laws
-use Rattle.recovery_engine.specs.Port.{PortStands}
 use Rattle.recovery_engine.specs.Slots.{StandFor}
 use Rattle.recovery_engine.specs.Taking.{Takes}
 use Rattle.recovery_engine.specs.declared.slot.RecoveringSlot.{RecoveringSlot}

@@ -1,15 +1,14 @@
 -- How the recovering report grows with the bytes, whatever they are: nothing is taken back.
 use Rattle.std.proofs.Common.{◌≡◌, ℕ, ◌+◌, List, [], ◌∷◌, ◌++◌, map, refl, sym, ◌∙◌, ap, subst, inl, inr}
-use Rattle.std.proofs.Common.{append_assoc, append-nil, length, Option, None, Some, Bool, true, flat_map}
+use Rattle.std.proofs.Common.{append_assoc, append-nil, length, Option, None, Some, Bool, flat_map}
 use Rattle.std.proofs.lemmas.List.{map-append}
-use Rattle.trace_values.specs.declared.cell.Cell.{Cell}
 use Rattle.trace_values.specs.declared.fault.Reason.{Reason}
 use Rattle.trace_values.specs.Placed.{Place, Placed, byte_at, placed, placed_from}
 use Rattle.trace_values.proofs.Placing.{placed_append}
 use Rattle.trace_values.specs.declared.next.Next.{Next}
 use Rattle.trace_values.specs.declared.reading_modes.FramesMode.{FramesMode}
 use Rattle.trace_values.specs.declared.reading_modes.FramesMode.TheVariants.{Hunt, Aligned, Bare}
-use Rattle.trace_values.specs.Reading.{Progress, with_unit}
+use Rattle.trace_values.specs.Reading.{with_unit}
 use Rattle.frame_grammar.specs.Port.{PortItem, State, start, rule}
 use Rattle.deformatter.specs.declared.step.PortStep.{PortStep}
 use Rattle.deformatter.specs.Growth.{PortGrows}

@@ -1,33 +1,25 @@
 -- What bytes add to the counts of the port.
-use Rattle.std.proofs.Common.{◌≡◌, ◌≢◌, ℕ, ◌+◌, List, [], ◌∷◌, ◌++◌, refl, sym, ◌∙◌, ap, subst, arith, append-nil}
-use Rattle.std.proofs.Common.{None, map}
+use Rattle.std.proofs.Common.{◌≡◌, ℕ, ◌+◌, List, [], ◌∷◌, ◌++◌, refl, sym, ◌∙◌, ap, subst, arith, append-nil}
+use Rattle.std.proofs.Common.{map}
 use Rattle.std.proofs.lemmas.List.{map-append}
 use Rattle.std.proofs.lemmas.List.Sums.{sum_by_push}
 use Rattle.trace_values.specs.declared.cell.Cell.{Cell}
-use Rattle.trace_values.specs.Placed.{Placed, byte_at}
+use Rattle.trace_values.specs.Placed.{Placed}
 use Rattle.trace_values.specs.declared.reading_modes.FramesMode.{FramesMode}
 use Rattle.trace_values.specs.declared.reading_modes.FramesMode.TheVariants.{Hunt, Aligned, Bare}
 use Rattle.deformatter.specs.Growth.{fulls_by, halves_by}
 use Rattle.deformatter.specs.PortReading.{bare_cell}
-use Rattle.deformatter.specs.Reading.{cells_in, port_stream}
 use Rattle.deformatter.specs.ReadingGrowth.{frames_by}
 use Rattle.deformatter.specs.declared.step.PortStep.{PortStep}
 use Rattle.deformatter.specs.declared.step.PortStep.TheVariants.{Quiet, Half, Full as FullEnds, Frame, Locked}
 use Rattle.deformatter.specs.declared.step.PortStep.TheVariants.{Fault as Faulty}
 use Rattle.source_counts.specs.Kept.{HasBytes}
-use Rattle.stretch_readings.specs.Stretches.{One, Stretches, fed}
-use Rattle.recovering_machines.specs.Port as ports
-use Rattle.recovering_machines.specs.Port.{items_by, from_halfword, raised, Answers}
-use Rattle.recovering_machines.specs.declared.port.RecoveringPort.{RecoveringPort}
-use Rattle.recovering_machines.proofs.Feeding.{none_before}
+use Rattle.recovering_machines.specs.Port.{raised}
 use Rattle.recovery_report.specs.Counts.{CountsGrow}
-use Rattle.recovery_report.specs.Port.{PortStretch, PortStretches, port_stretches, recovered, of_stretches, bare_stretch}
+use Rattle.recovery_report.specs.Port.{PortStretch, PortStretches, recovered, bare_stretch}
 use Rattle.recovery_report.specs.Port.{frames_of, fulls_of, halves_of}
-use Rattle.recovery_report.proofs.CountLaws as laws
 use Rattle.recovery_engine.specs.Counting.{HasCounted}
-use Rattle.recovery_engine.specs.Port.{PortStands}
 use Rattle.recovery_engine.specs.declared.counts.PortTotals.{PortTotals}
-use Rattle.recovery_engine.proofs.Feeding.{port_push}
 
 -- a lock ends as much, whatever its count
 pub by_raised : (old new : PortStretches) (count : ℕ) (step : PortStep) (cells : List Cell) →

@@ -123,13 +123,26 @@ impl Recovery {
         push_bare(at, bytes, &mut self.cells);
         let cells = self.cells.as_slice();
         self.totals.add_bare(cells);
-        take_each(self.slots.as_mut_slice(), bare_source(), cells, bytes, out, to);
+        take_each(
+            self.slots.as_mut_slice(),
+            bare_source(),
+            cells,
+            bytes,
+            out,
+            to,
+        );
         self.count += count as u64;
         count
     }
 
     /// Takes bytes of a capture in frames.
-    fn take_framed<V: Hearer>(&mut self, at: u64, piece: &[u8], out: &mut V, to: &mut V::To) -> usize
+    fn take_framed<V: Hearer>(
+        &mut self,
+        at: u64,
+        piece: &[u8],
+        out: &mut V,
+        to: &mut V::To,
+    ) -> usize
         requires framed { self.old.plan.frames ≢ Bare }
         requires some { 0 < length piece.now }
         requires limit { count_of self.old + length piece.now ≤ GREATEST_OFFSET + 1 }

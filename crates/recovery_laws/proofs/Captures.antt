@@ -1,6 +1,6 @@
 -- The report of a capture is the strict one up to its first fault.
 use Rattle.std.proofs.Common.{◌≡◌, ℕ, ◌+◌, ◌<◌, ◌≤◌, List, [], ◌∷◌, ◌++◌, map, refl, sym, ◌∙◌, ap, subst, arith}
-use Rattle.std.proofs.Common.{append_assoc, append-nil, drop, length, zero, suc, ◌⊎◌, inl, inr}
+use Rattle.std.proofs.Common.{append-nil, drop, length, zero, suc, ◌⊎◌, inl, inr}
 use Rattle.std.proofs.Common.{Option, None, Some, true}
 use Rattle.trace_values.specs.declared.cell.Cell.{Cell}
 use Rattle.trace_values.specs.declared.fault.Reason.{Reason}

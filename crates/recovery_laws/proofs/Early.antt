@@ -10,28 +10,26 @@ use Rattle.trace_values.specs.Stream.{Said, Stream}
 use Rattle.trace_values.specs.Walk.{by_unit}
 use Rattle.trace_values.proofs.Decorating as decorating
 use Rattle.trace_values.proofs.Falls as falls
-use Rattle.trace_values.proofs.Modes as modes
 use Rattle.trace_values.proofs.OneUnit.{AllOn, FaultOn, RisesOn}
 use Rattle.itm_grammar.specs.declared.packet.ItmPacket.TheVariants.{Sync}
 use Rattle.itm_grammar.specs.declared.partial.Partial.TheVariants.{Header}
 use Rattle.itm_grammar.specs.Rule.{rule}
-use Rattle.itm_codec.specs.Reading.{pattern, packets_in}
+use Rattle.itm_codec.specs.Reading.{pattern}
 use Rattle.stp_grammar.specs.declared.packet.Order.{Order}
 use Rattle.stp_grammar.specs.declared.packet.StpPacket.TheVariants.{Async}
 use Rattle.stp_grammar.specs.declared.partial.Partial.TheVariants.{Start}
 use Rattle.stp_grammar.specs.Attribution.{attribute}
 use Rattle.stp_grammar.specs.Rule.{rule as stp_rule}
-use Rattle.stp_codec.specs.Reading.{pattern as stp_pattern, packets_in as stp_packets_in, items_at}
+use Rattle.stp_codec.specs.Reading.{pattern as stp_pattern, packets_in as stp_packets_in}
 use Rattle.source_events.specs.declared.event.Event.{Event}
 use Rattle.source_events.specs.declared.packet.Packet.{Packet}
 use Rattle.source_events.specs.declared.packet.Packet.TheVariants.{Itm as ItmOf, Stp as StpOf}
 use Rattle.source_events.specs.declared.plan.SourceKind.{SourceKind}
 use Rattle.source_events.specs.declared.plan.SourceKind.TheVariants.{Itm, Stp}
 use Rattle.source_events.specs.Merge.{told, cut}
-use Rattle.source_events.specs.Packets.{given_as, stream_as}
+use Rattle.source_events.specs.Packets.{given_as}
 use Rattle.source_events.specs.Report.{lifted, what_of}
 use Rattle.source_events.specs.Runs.{RisesFrom, placed_run}
-use Rattle.source_events.proofs.Lawful.{given_append}
 use Rattle.source_machine.specs.Units.{reads_by}
 use Rattle.recovery_report.proofs.Rises.{rises}
 use Rattle.recovery_report.proofs.Sounds.{sources_settle}

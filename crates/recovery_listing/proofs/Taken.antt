@@ -1,5 +1,5 @@
 -- What `show` made of the front of a piece.
-use Rattle.std.proofs.Common.{◌≡◌, ◌∙◌, ℕ, ◌+◌, [], ◌∷◌, List, ◌++◌, length, sym, ap, refl, subst, append_assoc}
+use Rattle.std.proofs.Common.{◌≡◌, ◌∙◌, ℕ, ◌+◌, [], List, ◌++◌, length, sym, ap, refl, subst, append_assoc}
 use Rattle.std.proofs.Common.{append-nil, length-append, arith, false, take, drop, ◌-◌, ◌≤◌}
 use Rattle.std.proofs.lemmas.List.{length-drop}
 use Rattle.source_merge.proofs.Feds.{tail_of, take_parts}

@@ -1,8 +1,7 @@
 -- One more byte of the port: its frames and synchronisations.
-use Rattle.std.proofs.Common.{◌≡◌, ℕ, ◌+◌, List, [], ◌∷◌, ◌++◌, sym, ◌∙◌, ap, arith, append_assoc, append-nil}
+use Rattle.std.proofs.Common.{◌≡◌, ℕ, List, [], ◌∷◌, ◌++◌, sym, ◌∙◌, ap, arith, append_assoc, append-nil}
 use Rattle.std.proofs.Common.{refl, subst, Option, None, Some, true}
 use Rattle.std.specs.Prelude.{map, flat_map, is_none}
-use Rattle.std.specs.List.{sum_by}
 use Rattle.std.proofs.lemmas.Grind.{flat_map-append}
 use Rattle.std.proofs.lemmas.List.{map-append}
 use Rattle.std.proofs.lemmas.List.Sums.{sum_by_push}
@@ -12,7 +11,7 @@ use Rattle.trace_values.specs.Placed.{Place, Placed, byte_at}
 use Rattle.frame_grammar.specs.Port.{Full, start, rule}
 use Rattle.port_sync.specs.Hunting.{pattern}
 use Rattle.trace_values.specs.Hunted.{hunt}
-use Rattle.deformatter.specs.Growth.{PortGrows, fulls_by, halves_by}
+use Rattle.deformatter.specs.Growth.{PortGrows}
 use Rattle.deformatter.specs.Reading.{port_stream, port_hunted, cells_in}
 use Rattle.deformatter.specs.PortReading.{PortReading, framed}
 use Rattle.deformatter.specs.ReadingGrowth.{Grows, frames_by}
@@ -23,7 +22,7 @@ use Rattle.deformatter.proofs.ReaderFeeding.{framed_grows}
 use Rattle.stretch_readings.specs.Stretches.{Stretch, Stretches, One, fed, renewed, resumed_by}
 use Rattle.recovering_machines.specs.Port.{items_by, from_halfword}
 use Rattle.recovering_machines.proofs.Feeding.{same}
-use Rattle.recovery_report.specs.Port.{PortStretch, PortStretches, of_stretches, stretch_of, frames_of, fulls_of, halves_of}
+use Rattle.recovery_report.specs.Port.{PortStretch, PortStretches, of_stretches, stretch_of}
 use Rattle.recovery_report.specs.Counts.{CountsGrow}
 
 -- the frames of stretches with one more

@@ -1,5 +1,5 @@
 -- What a source's units say more with one more unit is at its place.
-use Rattle.std.proofs.Common.{◌≡◌, List, [], ◌∷◌, ◌++◌, ◌∙◌, ap, Bool}
+use Rattle.std.proofs.Common.{List, [], ◌∷◌, ◌++◌, ◌∙◌, ap, Bool}
 use Rattle.trace_values.specs.Placed.{Place, Placed}
 use Rattle.trace_values.specs.Stream.{Said, Stream}
 use Rattle.trace_values.specs.Walk.{by_unit}

@@ -1,6 +1,6 @@
 -- Cells of one source, each of which is a run of its own, as with no formatter.
 use Rattle.std.proofs.Common.{◌≡◌, ℕ, List, [], ◌∷◌, ◌++◌, map, refl, sym, ◌∙◌, ap, append_assoc, append-nil}
-use Rattle.std.proofs.Common.{None, Some, Bool, true, false}
+use Rattle.std.proofs.Common.{Some, Bool, true, false}
 use Rattle.std.proofs.lemmas.List.{append_cancel_left, map-append}
 use Rattle.trace_values.specs.declared.cell.Cell.{Cell}
 use Rattle.trace_values.specs.Placed.{Place, Placed}
@@ -20,7 +20,7 @@ use Rattle.stretch_readings.specs.Stretches.{One, Stretches, before, fed_from, f
 use Rattle.stretch_readings.proofs.StretchLaws.{from_append}
 use Rattle.recovering_machines.specs.Run.{units_in}
 use Rattle.recovering_machines.proofs.Runs.{told_append}
-use Rattle.recovery_report.specs.Report.{Part, Run, added, list_of, report_from, stream_of, stretches_of}
+use Rattle.recovery_report.specs.Report.{Part, Run, list_of, report_from, stream_of, stretches_of}
 use Rattle.recovery_report.specs.Words.{AreOf, singles}
 use Rattle.recovery_report.proofs.Hearing.{stays_whole, units_grow}
 use Rattle.recovery_report.proofs.PartLaws as laws

@@ -7,7 +7,6 @@ use Rattle.trace_values.specs.Walk.{by_unit}
 use Rattle.trace_values.specs.Hunted.{Found, hunt, hunted_by}
 use Rattle.trace_values.proofs.Modes as modes
 use Rattle.trace_values.proofs.Quiet as quieting
-use Rattle.trace_values.proofs.Decorating as decorating
 use Rattle.frame_grammar.specs.Port.{PortItem, Full, State, start, rule as port_rule}
 use Rattle.port_sync.specs.Hunting.{pattern as port_pattern}
 use Rattle.deformatter.specs.Resume.{taken_again}
@@ -15,17 +14,14 @@ use Rattle.deformatter.proofs.BeforeFaults.{seeked}
 use Rattle.itm_grammar.specs.declared.packet.ItmPacket.TheVariants.{Sync}
 use Rattle.itm_grammar.specs.declared.partial.Partial.TheVariants.{Header}
 use Rattle.itm_grammar.specs.Rule.{rule}
-use Rattle.itm_codec.specs.Reading.{pattern, packets_in}
+use Rattle.itm_codec.specs.Reading.{pattern}
 use Rattle.stp_grammar.specs.declared.packet.Order.{Order}
 use Rattle.stp_grammar.specs.declared.packet.StpPacket.TheVariants.{Async}
 use Rattle.stp_grammar.specs.declared.partial.Partial.TheVariants.{Start}
-use Rattle.stp_grammar.specs.Attribution.{attribute}
 use Rattle.stp_grammar.specs.Rule.{rule as stp_rule}
-use Rattle.stp_codec.specs.Reading.{pattern as stp_pattern, packets_in as stp_packets_in, items_at}
-use Rattle.source_events.specs.declared.packet.Packet.TheVariants.{Itm as ItmOf, Stp as StpOf}
+use Rattle.stp_codec.specs.Reading.{pattern as stp_pattern}
 use Rattle.source_events.specs.declared.plan.SourceKind.{SourceKind}
 use Rattle.source_events.specs.declared.plan.SourceKind.TheVariants.{Itm, Stp}
-use Rattle.source_events.proofs.Lawful.{settled_as}
 use Rattle.source_machine.specs.Units.{reads_by}
 use Rattle.stretch_readings.specs.Stretches.{from_fault}
 use Rattle.stretch_readings.specs.Words.{IsSound, IsSettling}

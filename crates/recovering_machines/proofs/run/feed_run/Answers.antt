@@ -1,4 +1,4 @@
-use Rattle.std.proofs.Common.{◌≡◌, ◌+◌, ◌-◌, ◌*◌, ◌≤◌, List, arith, length, subst, take}
+use Rattle.std.proofs.Common.{List, arith, subst, take}
 use Rattle.std.proofs.lemmas.List.{length-take-le, take_all}
 use Rattle.trace_values.specs.declared.cell.Cell.{Cell}
 use Rattle.recovering_machines.specs.Run.{TakesRun}

@@ -1,4 +1,4 @@
-use Rattle.std.proofs.Common.{[], ◌∷◌, List, subst, sym, arith, ◌<◌, ◌≤◌, ◌-◌, get_or, refl}
+use Rattle.std.proofs.Common.{[], ◌∷◌, List, subst, sym, arith, ◌-◌, get_or, refl}
 use Rattle.trace_values.specs.declared.cell.Cell.{Cell}
 use Rattle.recovering_machines.specs.Run.{TakesRun}
 use Rattle.recovering_machines.proofs.Runs.{bytes_size, cells_last, takes_idle, takes_one, takes_packet, takes_then}

@@ -1,4 +1,4 @@
-use Rattle.std.proofs.Common.{◌++◌, ◌∷◌, [], List, ◌+◌, ◌<◌, ◌∙◌, ap, arith, get_or, length, sym, take}
+use Rattle.std.proofs.Common.{◌++◌, ◌∷◌, [], List, ◌+◌, ◌∙◌, ap, arith, get_or, length, sym, take}
 use Rattle.std.proofs.lemmas.List.{length-take-le}
 use Rattle.trace_values.specs.declared.cell.Cell.{Cell}
 use Rattle.trace_values.specs.Placed.{byte_at}

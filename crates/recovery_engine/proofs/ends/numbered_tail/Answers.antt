@@ -1,4 +1,4 @@
-use Rattle.std.proofs.Common.{◌≡◌, ℕ, sym, ◌∙◌, subst, Some, None, Bool, true, false, cond, arith}
+use Rattle.std.proofs.Common.{◌≡◌, ℕ, sym, ◌∙◌, subst, Some, None, Bool, true, false, cond}
 use Rattle.std.specs.Prelude.{IfSome, is_some, nat_le}
 use Rattle.trace_values.specs.Cells.{source_id}
 use Rattle.source_events.specs.Plan.{kind_of}

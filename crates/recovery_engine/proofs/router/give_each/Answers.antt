@@ -1,4 +1,4 @@
-use Rattle.std.proofs.Common.{◌≡◌, ◌+◌, ◌-◌, ◌*◌, ◌<◌, ◌≤◌, ◌++◌, ◌∷◌, [], List, Some, ◌∙◌, ap, append-nil, arith, drop, length}
+use Rattle.std.proofs.Common.{◌++◌, ◌∷◌, [], List, Some, ◌∙◌, ap, append-nil, arith, length}
 use Rattle.std.proofs.Common.{subst, sym, take}
 use Rattle.std.proofs.lemmas.Grind.{flat_map-append}
 use Rattle.trace_values.specs.declared.cell.Cell.{Cell}

@@ -1,4 +1,4 @@
-use Rattle.std.proofs.Common.{refl, take, arith, ◌+◌, ◌≤◌}
+use Rattle.std.proofs.Common.{refl, take, arith}
 use Rattle.recovering_machines.proofs.OnceTaken.{if_some, stays, takes_cells}
 use Rattle.recovering_machines.proofs.source.RecoveringSource.take.Goals as goal
 

@@ -1,4 +1,4 @@
-use Rattle.std.proofs.Common.{◌≡◌, ℕ, List, sym, ◌∙◌, ap, subst}
+use Rattle.std.proofs.Common.{◌≡◌, ℕ, List, sym, ap, subst}
 use Rattle.source_events.specs.declared.port_mode.PortMode.{PortMode}
 use Rattle.source_events.specs.declared.tails.SourceTail.{SourceTail}
 use Rattle.source_events.specs.declared.tails.Tails.{Tails}

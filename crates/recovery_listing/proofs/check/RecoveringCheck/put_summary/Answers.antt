@@ -1,4 +1,4 @@
-use Rattle.std.proofs.Common.{ℕ, List, ◌++◌, sym, ◌∙◌, ap, append_assoc}
+use Rattle.std.proofs.Common.{ℕ, List, ◌++◌, ◌∙◌, ap, append_assoc}
 use Rattle.trace_values.specs.Placed.{placed}
 use Rattle.trace_text.specs.CountText.{faults_line}
 use Rattle.capture_actions.specs.Summary.{counts_by}

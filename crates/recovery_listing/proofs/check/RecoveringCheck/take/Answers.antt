@@ -1,4 +1,4 @@
-use Rattle.std.proofs.Common.{◌++◌, List, subst, sym, take, ◌∙◌}
+use Rattle.std.proofs.Common.{List, subst, sym, take, ◌∙◌}
 use Rattle.trace_values.specs.Placed.{Placed, placed}
 use Rattle.recovery_engine.specs.Counted as reading
 use Rattle.recovery_listing.proofs.Taken.{placed_more}

@@ -1,4 +1,4 @@
-use Rattle.std.proofs.Common.{◌≡◌, ℕ, List, [], ◌+◌, ◌++◌, length, take, sym, ◌∙◌, ap, refl, subst}
+use Rattle.std.proofs.Common.{◌≡◌, ℕ, List, [], ◌++◌, length, take, sym, ◌∙◌, ap, refl, subst}
 use Rattle.std.proofs.Common.{append_assoc, append-nil, arith}
 use Rattle.recovery_listing.specs.Check.{Stands}
 use Rattle.recovery_listing.proofs.Taken.{front_next, rest_size}

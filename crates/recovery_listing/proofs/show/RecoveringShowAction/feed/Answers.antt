@@ -1,7 +1,6 @@
-use Rattle.std.proofs.Common.{◌≡◌, ◌+◌, ℕ, List, arith, subst, take}
-use Rattle.std.proofs.lemmas.List.{length-take-le}
+use Rattle.std.proofs.Common.{ℕ, List, arith, subst, take}
 use Rattle.recovery_listing.specs.Feeding.{HasFed}
-use Rattle.recovery_listing.proofs.Taken.{fed_none, fed_on, front_next, rest_size}
+use Rattle.recovery_listing.proofs.Taken.{fed_on, front_next, rest_size}
 use Rattle.recovery_listing.proofs.show.RecoveringShowAction.feed.Goals as goal
 
 pub loop-done-preserved : goal.loop-done-preserved
