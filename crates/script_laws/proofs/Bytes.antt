@@ -35,7 +35,8 @@ use Rattle.script_text.specs.Said.{IsSayable}
 use Rattle.script_text.specs.VersionTwo.{IsSaid2}
 use Rattle.script_rebuild.specs.Script.{by_item, packets_of, packets_by, given_packets, items_of, items_by, given_items}
 use Rattle.script_rebuild.specs.Script.{puts_by, given_puts, raw_of, bytes_by, given_bytes, item_bytes, tagged, ends_with, in_order}
-use Rattle.script_rebuild.specs.Segments.{Segments, no_segments, with_bytes, now_ended, line_bytes, after_line, with_line}
+use Rattle.port_formatter.specs.Segments.{Segments, no_segments, with_bytes, now_ended}
+use Rattle.script_rebuild.specs.Segments.{line_bytes, after_line, with_line}
 use Rattle.script_rebuild.specs.Segments.{segments_after, segments_of, script_segments}
 use Rattle.script_rebuild.proofs.AllSegments.{joined_with, joined_more, given_more, items_put}
 use Rattle.script_rebuild.proofs.InOrder.{in_order_sound}

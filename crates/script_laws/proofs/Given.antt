@@ -42,7 +42,7 @@ use Rattle.script_laws.specs.ReadBack.{aligned, port_of, report_of, said_of, byt
 use Rattle.script_laws.specs.Puts.{CanAllBePut}
 use Rattle.script_laws.proofs.Said.{all_fit}
 use Rattle.script_laws.proofs.MappedIds.{itm_one, stp_one, none_one, one_itm, one_stp, mapped_low}
-use Rattle.script_laws.proofs.Bytes.{bytes_for, itm_bytes, stp_bytes, raw_bytes, none_items, none_packets, none_bytes, all_sources, all_proper}
+use Rattle.script_laws.proofs.Bytes.{bytes_for, itm_bytes, stp_bytes, raw_bytes, none_items, none_packets, none_bytes, all_proper}
 use Rattle.script_laws.proofs.Sources.{list_bytes, no_cell}
 use Rattle.script_laws.proofs.Packets.{IsReadAs, read_as}
 use Rattle.script_laws.proofs.Events.{whats, told_whats, itm_events, stp_events, other_events, no_faults, lifted_whats, raws_bytes, raws_plain, raws_none, raws_null}
