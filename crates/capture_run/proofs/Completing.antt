@@ -92,8 +92,8 @@ recovering : (task : Task) → GoesOn task → ((meaning_of task).fault_status �
     × ((meaning_of task).exact ≡ false) × ((limit : ℕ) → limit_of task limit ≡ limit)
 recovering (tasks.Show plan only window On) on = (refl, refl, λ limit. refl)
 recovering (tasks.Show plan only window Off) on = absurd on
-recovering (tasks.Check plan On) on = (refl, refl, λ limit. refl)
-recovering (tasks.Check plan Off) on = absurd on
+recovering (tasks.Check plan On kinds) on = (refl, refl, λ limit. refl)
+recovering (tasks.Check plan Off kinds) on = absurd on
 recovering (tasks.Split frames id) on = absurd on
 recovering (tasks.Text plan port) on = absurd on
 recovering (tasks.Vcd plan hz) on = absurd on

@@ -53,7 +53,7 @@ module _ (limit : ℕ) (old new : Streams) (script : List ℕ) (loses : Loses ol
   by_task (Split frames id) p sound run is = absurd is
   by_task (Text plan port) p sound run is = absurd is
   by_task (Vcd plan hz) p sound run is = absurd is
-  by_task (Check plan recover) p sound run is = absurd is
+  by_task (Check plan recover kinds) p sound run is = absurd is
   by_task Realign p sound run is = absurd is
   by_task (Ring size) p sound run is = absurd is
   by_task (Unring size at full) p sound run is = absurd is

@@ -1,6 +1,6 @@
 -- How a run ends, by the outcome of the serving of its input.
 use Rattle.std.proofs.Common.{◌≡◌, ℕ, ◌≤◌, List, [], Some, None, refl, sym, ap, ◌∙◌, subst, inl, inr, length, take}
-use Rattle.std.proofs.Common.{arith, true}
+use Rattle.std.proofs.Common.{arith, Bool, true}
 use Rattle.std.proofs.lemmas.List.{append_cancel_right, take_all}
 use Rattle.std.specs.declared.option.Option.{Option}
 use Rattle.std.specs.Prelude.{codes}
@@ -14,7 +14,7 @@ use Rattle.capture_actions.specs.declared.list_plan.ListPlan.{ListPlan}
 use Rattle.capture_words.specs.declared.recover.Recover.{Recover}
 use Rattle.source_events.specs.declared.plan.Plan.{Plan}
 use Rattle.capture_exercise.specs.Summary.{exercise_summary}
-use Rattle.capture_run.specs.Actions.{HasDone, checking, limit_of, meaning_of, showing}
+use Rattle.capture_run.specs.Actions.{HasDone, checking, limit_of, meaning_of, showing, summing}
 use Rattle.capture_run.specs.Notes.{Notes, text_of, status_of, is_image, over_text, over_status}
 use Rattle.capture_run.specs.Run.{HasMade, HasRun, TaskMeaning, TaskNotes, task_of, Streams, Stops, EndsLate}
 use Rattle.capture_run.specs.Run.{WritesBy, Loses}
@@ -123,11 +123,17 @@ same_show r s p q limit old new status is same run =
     subst (λ (v : ListPlan). HasRun (showing r v) limit old new status) same
     (subst (λ (v : Recover). HasRun (showing v p) limit old new status) (sym is) run)
 
-pub same_check : (r s : Recover) (p q : Plan) (limit : ℕ) (old new : Streams) (status : Status) → r ≡ s → p ≡ q →
-    HasRun (checking s p) limit old new status → HasRun (checking r q) limit old new status
-same_check r s p q limit old new status is same run =
-    subst (λ (v : Plan). HasRun (checking r v) limit old new status) same
-    (subst (λ (v : Recover). HasRun (checking v p) limit old new status) (sym is) run)
+pub same_summary : (a b : Bool) (p q : Plan) (limit : ℕ) (old new : Streams) (status : Status) → a ≡ b → p ≡ q →
+    HasRun (summing b p) limit old new status → HasRun (summing a q) limit old new status
+same_summary a b p q limit old new status is same run =
+    subst (λ (v : Plan). HasRun (summing a v) limit old new status) same
+    (subst (λ (v : Bool). HasRun (summing v p) limit old new status) (sym is) run)
+
+pub same_check : (r s : Recover) (kinds : Bool) (p q : Plan) (limit : ℕ) (old new : Streams) (status : Status) →
+    r ≡ s → p ≡ q → HasRun (checking s kinds p) limit old new status → HasRun (checking r kinds q) limit old new status
+same_check r s kinds p q limit old new status is same run =
+    subst (λ (v : Plan). HasRun (checking r kinds v) limit old new status) same
+    (subst (λ (v : Recover). HasRun (checking v kinds p) limit old new status) (sym is) run)
 
 pub same_task : (t u : Task) (limit : ℕ) (old new : Streams) (status : Status) → t ≡ u →
     HasDone u limit old new status → HasDone t limit old new status

@@ -1,6 +1,6 @@
 -- What each action that reads the input does: which bytes have a fault, what is written for them, what comes after it
 -- at the end or at a fault, what is noted at the end and at a fault, and how the run ends then.
-use Rattle.std.specs.Prelude.{◌≡◌, ℕ, List, [], ◌++◌, true, false, is_some, length, not, ◌==◌, None}
+use Rattle.std.specs.Prelude.{◌≡◌, ℕ, Bool, List, [], ◌++◌, true, false, is_some, length, not, ◌==◌, None}
 use Rattle.capture_words.specs.declared.job.Task.{Task}
 use Rattle.capture_words.specs.declared.job.Task.TheVariants.{Show, Split, Check, Rebuild, Exercise, Realign, Ring}
 use Rattle.capture_words.specs.declared.job.Task.TheVariants.{Unring, Text, Funnel, Vcd}
@@ -14,6 +14,7 @@ use Rattle.capture_actions.specs.Realigned.{realign_meaning}
 use Rattle.capture_actions.specs.Ring.{ring_meaning}
 use Rattle.capture_actions.specs.Split.{split_meaning}
 use Rattle.capture_actions.specs.declared.split_plan.SplitPlan.{SplitPlan}
+use Rattle.capture_actions.specs.Kinds.{kinds_meaning}
 use Rattle.capture_actions.specs.Listing.{show_meaning}
 use Rattle.capture_actions.specs.Summary.{check_meaning}
 use Rattle.capture_actions.specs.Unring.{unring_meaning}
@@ -121,14 +122,19 @@ unring_notes plan = record {
   exact = true;
 }
 
--- a listing and a summary, up to a capture's first fault or with all its faults
+-- a listing and a summary, up to a capture's first fault, the latter with or without the counts of kinds, or with all
+-- its faults
 abbrev pub showing : Recover → ListPlan → TaskMeaning
 showing Off p = task_of (show_meaning p) (captured last_note)
 showing On p = task_of (recovering.show_meaning p) (recovered_notes p.plan)
 
-abbrev pub checking : Recover → Plan → TaskMeaning
-checking Off plan = task_of (check_meaning plan) (captured last_note)
-checking On plan = task_of (recovering_summary.check_meaning plan) (recovered_notes plan)
+abbrev pub summing : Bool → Plan → TaskMeaning
+summing false plan = task_of (check_meaning plan) (captured last_note)
+summing true plan = task_of (kinds_meaning plan) (captured last_note)
+
+abbrev pub checking : Recover → Bool → Plan → TaskMeaning
+checking Off kinds plan = summing kinds plan
+checking On kinds plan = task_of (recovering_summary.check_meaning plan) (recovered_notes plan)
 
 -- the writing of a script's capture
 abbrev pub rebuilding : RebuildPlan → TaskMeaning
@@ -146,7 +152,7 @@ meaning_of (Text plan port) =
 meaning_of (Vcd plan hz) =
     let p : VcdPlan = record { plan = plan; hz = hz } in
     task_of (vcd_meaning p) (captured (report_note plan))
-meaning_of (Check plan recover) = checking recover plan
+meaning_of (Check plan recover kinds) = checking recover kinds plan
 meaning_of (Rebuild plan sync half) = rebuilding (straight plan sync half)
 meaning_of (Funnel plan sync half turns) = rebuilding (funnelled plan sync half turns)
 meaning_of (Exercise items lose) = reads_nothing (exercise_summary items lose)

@@ -9,7 +9,7 @@ use Rattle.capture_run.specs.declared.status.Status.TheVariants.{Done, NoMemory,
 -- the task goes on after faults
 abbrev pub GoesOn : Task → Type 0
 GoesOn (Show plan only window On) = Unit {0}
-GoesOn (Check plan On) = Unit {0}
+GoesOn (Check plan On kinds) = Unit {0}
 GoesOn task = ⊥
 
 -- it was done, with or without faults, or there was no memory

@@ -8,7 +8,7 @@ ghost use Rattle.capture_run.specs.Notes.{text_of, done_text, status_of, is_imag
 ghost use Rattle.capture_run.specs.Run.{TaskNotes};
 
 use crate::status::Status;
-use capture_actions::{Check, PortText, Realign, Ring, Show, Split, Unring};
+use capture_actions::{Check, KindCheck, PortText, Realign, Ring, Show, Split, Unring};
 use port_slip::Slipped;
 use recovery_listing::{RecoveringCheck, RecoveringShow};
 use script_rebuild::{Rebuild, ScriptFault};
@@ -174,6 +174,16 @@ impl CommandAction for Vcd {
 }
 
 impl CommandAction for Check {
+    ghost use Rattle.capture_run.specs.Actions.{captured, last_note};
+
+    ghost notes = { λ _. captured last_note };
+
+    fn ending(&self) -> Ending {
+        Ending::of_capture(None)
+    }
+}
+
+impl CommandAction for KindCheck {
     ghost use Rattle.capture_run.specs.Actions.{captured, last_note};
 
     ghost notes = { λ _. captured last_note };

@@ -5,7 +5,7 @@ ghost use Rattle.trace_io.specs.Causes.{Rose};
 ghost use Rattle.trace_stream.specs.Fresh.{IsFresh};
 ghost use Rattle.trace_stream.specs.declared.limits.TheConstants.{GREATEST_CAPTURE};
 ghost use Rattle.capture_words.specs.Jobs.{IsSoundTask};
-ghost use Rattle.capture_run.specs.Actions.{HasDone, checking, showing};
+ghost use Rattle.capture_run.specs.Actions.{HasDone, checking, showing, summing};
 ghost use Rattle.source_events.specs.Plan.{is_sound};
 ghost use Rattle.capture_run.specs.Notes.{Notes};
 ghost use Rattle.capture_run.specs.Run.{HasRun, task_of, streams};
@@ -15,7 +15,8 @@ use crate::exercise::run_exercise;
 use crate::notes::{note, note_done, note_fault, note_over};
 use crate::status::Status;
 use capture_actions::{
-    Check, ListPlan, PortText, PortTextPlan, Realign, Ring, Show, Split, SplitPlan, Unring,
+    Check, KindCheck, ListPlan, PortText, PortTextPlan, Realign, Ring, Show, Split, SplitPlan,
+    Unring,
 };
 use capture_words::{Job, Recover, Task};
 use recovery_listing::{RecoveringCheck, RecoveringShow};
@@ -137,11 +138,11 @@ fn run_show<I: Source, O: Sink, N: Sink>(
     }
 }
 
-/// Counts what is in a capture, up to its first fault or with all its faults.
-fn run_check<I: Source, O: Sink, N: Sink>(
+/// Counts what is in a capture, up to its first fault, with or without the items of each kind.
+fn run_summary<I: Source, O: Sink, N: Sink>(
     buffers: &mut Buffers,
     plan: Plan,
-    recover: Recover,
+    kinds: bool,
     limit: u64,
     input: &mut I,
     output: &mut O,
@@ -152,16 +153,43 @@ fn run_check<I: Source, O: Sink, N: Sink>(
     requires small { limit ≤ GREATEST_CAPTURE }
     ensures ran { let before = streams (I.left input.old) (O.held output.old) (N.held notes.old) (N.faults notes.old) in
         let after = streams (I.left input.new) (O.held output.new) (N.held notes.new) (N.faults notes.new) in
-        HasRun (checking recover plan) limit before after result }
+        HasRun (summing kinds plan) limit before after result }
+    ensures one_empty_read { I.empty_reads input.new ≤ I.empty_reads input.old + 1 }
+    ensures read_cause { result ≡ Status.ReadFault → Rose (I.faults input.old) (I.faults input.new) }
+    ensures write_cause { result ≡ Status.WriteFault → Rose (O.faults output.old) (O.faults output.new) }
+{
+    if kinds {
+        let mut action = KindCheck::new(plan);
+        run_action(buffers, &mut action, limit, input, output, notes)
+    } else {
+        let mut action = Check::new(plan);
+        run_action(buffers, &mut action, limit, input, output, notes)
+    }
+}
+
+/// Counts what is in a capture, up to its first fault or with all its faults.
+fn run_check<I: Source, O: Sink, N: Sink>(
+    buffers: &mut Buffers,
+    plan: Plan,
+    recover: Recover,
+    kinds: bool,
+    limit: u64,
+    input: &mut I,
+    output: &mut O,
+    notes: &mut N,
+) -> Status
+    requires empty { (buffers.old.pending ≡ []) × (buffers.old.recent ≡ []) }
+    requires sound { is_sound plan ≡ true }
+    requires small { limit ≤ GREATEST_CAPTURE }
+    ensures ran { let before = streams (I.left input.old) (O.held output.old) (N.held notes.old) (N.faults notes.old) in
+        let after = streams (I.left input.new) (O.held output.new) (N.held notes.new) (N.faults notes.new) in
+        HasRun (checking recover kinds plan) limit before after result }
     ensures one_empty_read { I.empty_reads input.new ≤ I.empty_reads input.old + 1 }
     ensures read_cause { result ≡ Status.ReadFault → Rose (I.faults input.old) (I.faults input.new) }
     ensures write_cause { result ≡ Status.WriteFault → Rose (O.faults output.old) (O.faults output.new) }
 {
     match recover {
-        Recover::Off => {
-            let mut action = Check::new(plan);
-            run_action(buffers, &mut action, limit, input, output, notes)
-        }
+        Recover::Off => run_summary(buffers, plan, kinds, limit, input, output, notes),
         Recover::On => {
             let mut action = RecoveringCheck::new(plan);
             run_action(buffers, &mut action, limit, input, output, notes)
@@ -224,8 +252,21 @@ pub fn run_job<I: Source, O: Sink, N: Sink>(
             let mut action = Vcd::new(VcdPlan { plan, hz });
             run_action(&mut buffers, &mut action, limit, input, output, notes)
         }
-        Task::Check { plan, recover } => {
-            run_check(&mut buffers, plan, recover, limit, input, output, notes)
+        Task::Check {
+            plan,
+            recover,
+            kinds,
+        } => {
+            run_check(
+                &mut buffers,
+                plan,
+                recover,
+                kinds,
+                limit,
+                input,
+                output,
+                notes,
+            )
         }
         Task::Rebuild { plan, sync, half } => {
             let script = script_plan(plan, sync, half, None);

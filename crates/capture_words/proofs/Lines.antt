@@ -7,7 +7,7 @@ use Rattle.capture_words.specs.Texts.{usage_line, IsFault}
 use Rattle.capture_words.specs.declared.option.CommandOption.TheVariants.{Frames, Packets, Itm, Stp, StpOrder, Id}
 use Rattle.capture_words.specs.declared.option.CommandOption.TheVariants.{Only, Window, Sync, Half, Limit, Items}
 use Rattle.capture_words.specs.declared.option.CommandOption.TheVariants.{Lose, Recover, Size, Pointer, Full}
-use Rattle.capture_words.specs.declared.option.CommandOption.TheVariants.{Order, Hold, Depth, Port, Hz}
+use Rattle.capture_words.specs.declared.option.CommandOption.TheVariants.{Order, Hold, Depth, Port, Hz, Kinds}
 use Rattle.capture_words.specs.declared.usage.TheConstants.{LINE_ROOM}
 use Rattle.capture_words.specs.declared.usage.UsageFault.{UsageFault}
 use Rattle.capture_words.specs.declared.usage.UsageFault.TheVariants.{UnknownAction, BadValue, SplitNeedsId}
@@ -43,6 +43,7 @@ fits (BadValue Order) is = lit≤ tt
 fits (BadValue Hold) is = lit≤ tt
 fits (BadValue Depth) is = lit≤ tt
 fits (BadValue Hz) is = lit≤ tt
+fits (BadValue Kinds) is = lit≤ tt
 fits (BadValue Port) is = lit≤ tt
 fits SplitNeedsId is = lit≤ tt
 fits (MappedTwice id) is = let number = short_id id (omega (arith, is)) in grind (arith, common_steps, number)

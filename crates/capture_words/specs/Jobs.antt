@@ -83,7 +83,7 @@ turns_with settings = order_with settings.order >>= (λ order.
 abbrev pub task_with : ActionName → Settings → Result Task UsageFault
 task_with ShowName s = plan_with s.plan >>= (λ plan. Ok (Show plan s.only s.window s.recover))
 task_with SplitName s = split_with s.plan.frames s.id
-task_with CheckName s = plan_with s.plan >>= (λ plan. Ok (Check plan s.recover))
+task_with CheckName s = plan_with s.plan >>= (λ plan. Ok (Check plan s.recover s.kinds))
 task_with RebuildName s = plan_with s.plan >>= (λ plan. Ok (Rebuild plan s.sync s.half))
 task_with ExerciseName s = Ok (Exercise s.items s.lose)
 task_with RealignName s = Ok Realign
@@ -116,7 +116,7 @@ IsOfOne plan = (is_sound plan ≡ true) × (length plan.itm ≡ 1) × (plan.stp 
 abbrev pub IsSoundTask : Task → Type 0
 IsSoundTask (Show plan only window recover) = is_sound plan ≡ true
 IsSoundTask (Split frames id) = Unit {0}
-IsSoundTask (Check plan recover) = is_sound plan ≡ true
+IsSoundTask (Check plan recover kinds) = is_sound plan ≡ true
 IsSoundTask (Rebuild plan sync half) = (is_sound plan ≡ true) × (half ≤ 8)
 IsSoundTask (Exercise items lose) = (1 ≤ items) × (items ≤ 1000000) × (lose ≤ 1000000)
 IsSoundTask Realign = Unit {0}

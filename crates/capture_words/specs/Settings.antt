@@ -4,7 +4,7 @@ use Rattle.clap.specs.Words.{Row}
 use Rattle.source_events.specs.declared.plan.Plan.{Plan}
 use Rattle.capture_words.specs.Values.{frames_in, packets_in, itm_in, stp_in, order_in, id_in, only_in, window_in}
 use Rattle.capture_words.specs.Values.{sync_in, half_in, limit_in, items_in, lose_in, size_in, pointer_in, full_in}
-use Rattle.capture_words.specs.Values.{recover_in, turn_order_in, hold_in, depth_in, port_in, hz_in}
+use Rattle.capture_words.specs.Values.{recover_in, turn_order_in, hold_in, depth_in, port_in, hz_in, kinds_in}
 use Rattle.capture_words.specs.declared.settings.BufferSettings.{BufferSettings}
 use Rattle.capture_words.specs.declared.settings.TurnSettings.{TurnSettings}
 use Rattle.capture_words.specs.declared.settings.Settings.{Settings}
@@ -57,6 +57,7 @@ settings_in rows = do
   turns ← turns_in rows
   port ← port_in rows
   hz ← hz_in rows
+  kinds ← kinds_in rows
   Ok (record {
     plan = plan;
     id = id;
@@ -72,4 +73,5 @@ settings_in rows = do
     turns = turns;
     port = port;
     hz = hz;
+    kinds = kinds;
   })

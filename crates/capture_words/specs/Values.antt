@@ -26,7 +26,7 @@ use Rattle.capture_words.specs.declared.option.CommandOption.TheVariants.{Frames
 use Rattle.capture_words.specs.declared.option.CommandOption.TheVariants.{Only, Window, Sync, Half, Limit, Items}
 use Rattle.capture_words.specs.declared.option.CommandOption.TheVariants.{Lose, Size, Pointer, Full, Port as PortOption}
 use Rattle.capture_words.specs.declared.option.CommandOption.TheVariants.{Recover as RecoverOption}
-use Rattle.capture_words.specs.declared.option.CommandOption.TheVariants.{Order as OrderOption, Hold, Depth, Hz}
+use Rattle.capture_words.specs.declared.option.CommandOption.TheVariants.{Order as OrderOption, Hold, Depth, Hz, Kinds}
 use Rattle.capture_words.specs.declared.recover.Recover.{Recover}
 use Rattle.capture_words.specs.declared.recover.Recover.TheVariants.{Off, On}
 use Rattle.capture_words.specs.declared.usage.UsageFault.{UsageFault}
@@ -218,6 +218,14 @@ port_in = number_given PortOption 0 0 31
 -- how many ticks of the local timestamps there are in a second
 abbrev pub hz_in : List Row → Result (Option ℕ) UsageFault
 hz_in = number_if_given Hz 1 1000000000000
+
+-- whether the items of each kind are counted; they are not if nothing else is said
+abbrev pub switch_named : Text → Option Bool
+switch_named text =
+    if bytes_eq text (codes "off") then Some false else if bytes_eq text (codes "on") then Some true else None
+
+abbrev pub kinds_in : List Row → Result Bool UsageFault
+kinds_in = option_in Kinds false switch_named
 
 abbrev pub limit_in : List Row → Result ℕ UsageFault
 limit_in = number_given Limit GREATEST_LIMIT 1 GREATEST_LIMIT

@@ -51,6 +51,8 @@ pub enum Task {
         plan: Plan,
         /// Whether the reading goes on after a fault.
         recover: Recover,
+        /// Whether the items of each kind are counted. Where the reading goes on after a fault it makes no difference.
+        kinds: bool,
     },
     /// The capture of a script.
     Rebuild {
@@ -242,6 +244,7 @@ fn task_with(name: ActionName, settings: Settings) -> Result<Task, UsageFault>
         ActionName::Check => Ok(Task::Check {
             plan: plan_with(settings.plan)?,
             recover: settings.recover,
+            kinds: settings.kinds,
         }),
         ActionName::Rebuild => Ok(Task::Rebuild {
             plan: plan_with(settings.plan)?,

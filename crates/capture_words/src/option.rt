@@ -50,10 +50,12 @@ pub enum CommandOption {
     Port,
     /// `--hz`: how many ticks of the local timestamps there are in a second.
     Hz,
+    /// `--kinds`: whether the items of each kind are counted.
+    Kinds,
 }
 
 /// The options, in that order.
-pub(crate) const ALL_OPTIONS: [CommandOption; 22] = [
+pub(crate) const ALL_OPTIONS: [CommandOption; 23] = [
     CommandOption::Frames,
     CommandOption::Packets,
     CommandOption::Itm,
@@ -76,6 +78,7 @@ pub(crate) const ALL_OPTIONS: [CommandOption; 22] = [
     CommandOption::Depth,
     CommandOption::Port,
     CommandOption::Hz,
+    CommandOption::Kinds,
 ];
 
 impl CommandOption {
@@ -107,6 +110,7 @@ impl CommandOption {
             CommandOption::Depth => "depth",
             CommandOption::Port => "port",
             CommandOption::Hz => "hz",
+            CommandOption::Kinds => "kinds",
         }
     }
 
@@ -184,6 +188,9 @@ impl CommandOption {
             CommandOption::Hz => {
                 "How many ticks of the local timestamps vcd has in a second, so that its times are nanoseconds: 1 to \
                 1000000000000; where it is not given a tick is a nanosecond"
+            }
+            CommandOption::Kinds => {
+                "Whether check counts the items of each kind, too: off (the default) or on"
             }
         }
     }

@@ -19,6 +19,7 @@ ghost use Rattle.capture_words.specs.declared.option.CommandOption.TheVariants.{
 ghost use Rattle.capture_words.specs.declared.option.CommandOption.TheVariants.{Half, Limit, Items, Lose};
 ghost use Rattle.capture_words.specs.declared.option.CommandOption.TheVariants.{Size, Pointer, Full};
 ghost use Rattle.capture_words.specs.declared.option.CommandOption.TheVariants.{Order, Hold, Depth, Hz};
+ghost use Rattle.capture_words.specs.declared.option.CommandOption.TheVariants.{Kinds as KindsOption};
 ghost use Rattle.capture_words.specs.declared.option.CommandOption.TheVariants.{Port as PortOption};
 ghost use Rattle.capture_words.specs.declared.option.CommandOption.TheVariants.{Recover as RecoverOption};
 ghost use Rattle.capture_words.specs.declared.recover.Recover.TheVariants.{Off, On};
@@ -107,7 +108,7 @@ pub fn asks()
         does (codes "show --recover on --only itm")
         (Show (planned FramesHunt PacketsHunt [] [] Msn) (Some (OfKind ItmKind ∷ [])) None On) 68719476736 ∷
         does (codes "--recover=off show") (Show (planned FramesHunt PacketsHunt [] [] Msn) None None Off) 68719476736 ∷
-        does (codes "check --recover=on") (Check (planned FramesHunt PacketsHunt [] [] Msn) On) 68719476736 ∷
+        does (codes "check --recover=on") (Check (planned FramesHunt PacketsHunt [] [] Msn) On false) 68719476736 ∷
         does (codes "realign --recover on") Realign 68719476736 ∷ []) }
     ensures text { AllAnswered (
         does (codes "text --itm 1") (Text (planned FramesHunt PacketsHunt (1 ∷ []) [] Msn) 0) 68719476736 ∷
@@ -136,18 +137,21 @@ pub fn asks()
         (Split Bare 126) 7 ∷
         does (codes "split --id 5 --itm 7 --stp 7") (Split FramesHunt 5) 68719476736 ∷ []) }
     ensures check { AllAnswered (
-        does (codes "check") (Check (planned FramesHunt PacketsHunt [] [] Msn) Off) 68719476736 ∷
+        does (codes "check") (Check (planned FramesHunt PacketsHunt [] [] Msn) Off false) 68719476736 ∷
         does (codes "check --frames aligned --itm 110 --stp 111")
-        (Check (planned FramesAligned PacketsHunt (110 ∷ []) (111 ∷ []) Msn) Off) 68719476736 ∷
+        (Check (planned FramesAligned PacketsHunt (110 ∷ []) (111 ∷ []) Msn) Off false) 68719476736 ∷
         does (codes "--frames=bare --limit=65536 check --id 0 --only port=7 --packets aligned")
-        (Check (planned Bare PacketsAligned [] [] Msn) Off) 65536 ∷
+        (Check (planned Bare PacketsAligned [] [] Msn) Off false) 65536 ∷
+        does (codes "check --kinds on") (Check (planned FramesHunt PacketsHunt [] [] Msn) Off true) 68719476736 ∷
+        does (codes "--kinds=off check --recover on")
+        (Check (planned FramesHunt PacketsHunt [] [] Msn) On false) 68719476736 ∷
         does (codes "check --stp 5 --stp-order lsn")
-        (Check (planned FramesHunt PacketsHunt [] (5 ∷ []) Lsn) Off) 68719476736 ∷ []) }
+        (Check (planned FramesHunt PacketsHunt [] (5 ∷ []) Lsn) Off false) 68719476736 ∷ []) }
     ensures several { AllAnswered (
         does (codes "show --itm 1,2 --stp 5,4,3")
         (Show (planned FramesHunt PacketsHunt (1 ∷ 2 ∷ []) (5 ∷ 4 ∷ 3 ∷ []) Msn) None None Off) 68719476736 ∷
         does (codes "check --itm=111,1,2,3,4,5,6,7")
-        (Check (planned FramesHunt PacketsHunt (111 ∷ 1 ∷ 2 ∷ 3 ∷ 4 ∷ 5 ∷ 6 ∷ 7 ∷ []) [] Msn) Off) 68719476736 ∷
+        (Check (planned FramesHunt PacketsHunt (111 ∷ 1 ∷ 2 ∷ 3 ∷ 4 ∷ 5 ∷ 6 ∷ 7 ∷ []) [] Msn) Off false) 68719476736 ∷
         does (codes "rebuild --stp 2,1 --itm 4,3")
         (Rebuild (planned FramesHunt PacketsHunt (4 ∷ 3 ∷ []) (2 ∷ 1 ∷ []) Msn) 64 0) 68719476736 ∷ []) }
 {}
@@ -194,6 +198,8 @@ pub fn misuses()
         faults (codes "show --port 01") (BadValue PortOption) ∷
         faults (codes "vcd --itm 1 --hz 0") (BadValue Hz) ∷
         faults (codes "show --hz 1000000000001") (BadValue Hz) ∷
+        faults (codes "check --kinds yes") (BadValue KindsOption) ∷
+        faults (codes "show --kinds=") (BadValue KindsOption) ∷
         faults (codes "unring --size 16 --limit 0") (BadValue Limit) ∷
         faults (codes "check --limit 0") (BadValue Limit) ∷
         faults (codes "show --limit 68719476737") (BadValue Limit) ∷
@@ -268,6 +274,7 @@ pub fn misuses()
         faults (codes "funnel --depth x --hold x") (BadValue Hold) ∷
         faults (codes "ring --port x --depth x") (BadValue Depth) ∷
         faults (codes "vcd --hz x --port x") (BadValue PortOption) ∷
+        faults (codes "check --kinds x --hz x") (BadValue Hz) ∷
         faults (codes "split") SplitNeedsId ∷
         faults (codes "split --limit x") (BadValue Limit) ∷
         faults (codes "show --itm 5 --stp 5") (MappedTwice 5) ∷

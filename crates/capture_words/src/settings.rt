@@ -13,9 +13,9 @@ ghost use Rattle.capture_words.specs.Choices.{AreIds};
 use crate::recover::Recover;
 use crate::usage::UsageFault;
 use crate::values::{
-    depth_in, frames_in, full_in, half_in, hold_in, hz_in, id_in, items_in, itm_in, limit_in,
-    lose_in, only_in, order_in, packets_in, pointer_in, port_in, recover_in, size_in, stp_in,
-    sync_in, turn_order_in, window_in,
+    depth_in, frames_in, full_in, half_in, hold_in, hz_in, id_in, items_in, itm_in, kinds_in,
+    limit_in, lose_in, only_in, order_in, packets_in, pointer_in, port_in, recover_in, size_in,
+    stp_in, sync_in, turn_order_in, window_in,
 };
 use clap::ArgMatches;
 use item_tap::{Bounds, Choices};
@@ -76,6 +76,8 @@ pub struct Settings {
     pub port: u8,
     /// How many ticks of the local timestamps there are in a second.
     pub hz: Option<u64>,
+    /// Whether the items of each kind are counted.
+    pub kinds: bool,
 }
 
 /// How a capture is read, by the first five options.
@@ -151,5 +153,6 @@ pub fn settings_in(matches: &ArgMatches<'_>) -> Result<Settings, UsageFault>
         turns: turns_in(matches)?,
         port: port_in(matches)?,
         hz: hz_in(matches)?,
+        kinds: kinds_in(matches)?,
     })
 }

@@ -9,7 +9,7 @@ ghost use Rattle.capture_words.specs.Values.{action_named, order_named, bit_name
 ghost use Rattle.capture_words.specs.Values.{number_if_given, itm_in, stp_in, order_in, id_in, only_in, window_in};
 ghost use Rattle.capture_words.specs.Values.{number_given, sync_in, half_in, limit_in, items_in, lose_in, size_in};
 ghost use Rattle.capture_words.specs.Values.{pointer_in, full_in, option_in, ids_named, port_in, recover_in};
-ghost use Rattle.capture_words.specs.Values.{turn_order_in, hold_in, depth_in, hz_in};
+ghost use Rattle.capture_words.specs.Values.{turn_order_in, hold_in, depth_in, hz_in, switch_named, kinds_in};
 ghost use Rattle.capture_words.specs.Choices.{AreIds};
 
 use crate::choices::{choices_named, window_named};
@@ -434,6 +434,27 @@ pub fn hz_in(matches: &ArgMatches<'_>) -> Result<Option<u64>, UsageFault>
             Some(hz) => Ok(Some(hz)),
             None => Err(UsageFault::BadValue(CommandOption::Hz)),
         },
+    }
+}
+
+/// What a switch of this name says: `off` or `on`.
+fn switch_named(name: &str) -> Option<bool>
+    ensures { result ≡ switch_named name.now }
+{
+    match name {
+        "off" => Some(false),
+        "on" => Some(true),
+        _ => None,
+    }
+}
+
+/// Whether the items of each kind are counted: `off` or `on`, and `off` where it is absent.
+pub fn kinds_in(matches: &ArgMatches<'_>) -> Result<bool, UsageFault>
+    ensures { result ≡ kinds_in (rows_of (found_of matches.now)) }
+{
+    match text_of(matches, CommandOption::Kinds) {
+        None => Ok(false),
+        Some(text) => switch_named(text).ok_or(UsageFault::BadValue(CommandOption::Kinds)),
     }
 }
 

@@ -14,7 +14,7 @@ returns-in-Show-clause-ran g c =
 pub returns-in-Check-clause-ran : goal.returns-in-Check-clause-ran
 returns-in-Check-clause-ran g c =
     let t = c.in-Check in
-    same_task c.args.job.task (Check t.plan t.recover) c.args.job.limit _ _ _ t.is c.run_check.ensures.ran
+    same_task c.args.job.task (Check t.plan t.recover t.kinds) c.args.job.limit _ _ _ t.is c.run_check.ensures.ran
 
 pub returns-in_default-clause-ran : goal.returns-in_default-clause-ran
 returns-in_default-clause-ran g c =
