@@ -1,4 +1,5 @@
 pub mod Names
+pub mod Words
 pub mod Owed
 pub mod Ring
 pub mod Unring

@@ -6,6 +6,7 @@
 mod check;
 mod clocks;
 mod filter;
+mod item_word;
 pub mod laws;
 mod list_plan;
 mod lister;
@@ -27,6 +28,7 @@ mod unring;
 mod unring_plan;
 
 pub use check::{Check, SOURCE_ROOM, SUMMARY_ROOM, put_source_line};
+pub use item_word::{ItemWord, WORD_COUNT, WORDS};
 pub use list_plan::ListPlan;
 pub use lister::Lister;
 pub use port_text::PortText;

@@ -1,0 +1,122 @@
+-- The words with which the texts of items begin: the third field of the lines of a listing.
+use Rattle.std.specs.Prelude.{ℕ, List, codes, Option, None, Some}
+use Rattle.dwt_packets.specs.Table.{name}
+use Rattle.dwt_packets.specs.declared.item.DwtItem.{DwtItem}
+use Rattle.dwt_packets.specs.declared.item.DwtItem.TheVariants.{Counters as OfCounters, Exception as OfException, Sample}
+use Rattle.dwt_packets.specs.declared.item.DwtItem.TheVariants.{Asleep as OfAsleep, MatchPc, MatchAddress, Read, Written}
+use Rattle.dwt_packets.specs.declared.item.DwtItem.TheVariants.{Other}
+use Rattle.itm_grammar.specs.declared.packet.ItmPacket.TheVariants.{Sync as OfSync, Overflow as OfOverflow, Software}
+use Rattle.itm_grammar.specs.declared.packet.ItmPacket.TheVariants.{Hardware, Local as OfLocal, GlobalFirst}
+use Rattle.itm_grammar.specs.declared.packet.ItmPacket.TheVariants.{GlobalSecond, Extension}
+use Rattle.stp_grammar.specs.declared.item.StpItem.TheVariants.{Async as OfAsync, Version as OfVersion, MasterError}
+use Rattle.stp_grammar.specs.declared.item.StpItem.TheVariants.{GlobalError, Datum, Flag as OfFlag, Trigger as OfTrig}
+use Rattle.stp_grammar.specs.declared.item.StpItem.TheVariants.{Frequency, NullStamp}
+use Rattle.source_events.specs.declared.event.What.TheVariants.{Locked, Packet as Said, Raw as OfRaw, Trigger as OfTrigger}
+use Rattle.source_events.specs.declared.packet.Packet.TheVariants.{Stp as StpOf}
+use Rattle.capture_actions.specs.Names.{ItmPacket, StpItem, What, Packet, Itm}
+use Rattle.capture_actions.specs.declared.item_word.ItemWord.{ItemWord}
+use Rattle.capture_actions.specs.declared.item_word.ItemWord.TheVariants.{Sync, Overflow, Port, Counters, Exception, Pc}
+use Rattle.capture_actions.specs.declared.item_word.ItemWord.TheVariants.{Asleep, Cmp, Hw, Local, Global1, Global2, Ext}
+use Rattle.capture_actions.specs.declared.item_word.ItemWord.TheVariants.{Async, Version, Data, Flag, Trig, Freq}
+use Rattle.capture_actions.specs.declared.item_word.ItemWord.TheVariants.{Nullts, Merr, Gerr, Raw, Trigger}
+
+-- its text
+abbrev pub text_of : ItemWord → List ℕ
+text_of Sync = codes "sync"
+text_of Overflow = codes "overflow"
+text_of Port = codes "port"
+text_of Counters = codes "counters"
+text_of Exception = codes "exception"
+text_of Pc = codes "pc"
+text_of Asleep = codes "asleep"
+text_of Cmp = codes "cmp"
+text_of Hw = codes "hw"
+text_of Local = codes "local"
+text_of Global1 = codes "global1"
+text_of Global2 = codes "global2"
+text_of Ext = codes "ext"
+text_of Async = codes "async"
+text_of Version = codes "version"
+text_of Data = codes "data"
+text_of Flag = codes "flag"
+text_of Trig = codes "trig"
+text_of Freq = codes "freq"
+text_of Nullts = codes "nullts"
+text_of Merr = codes "merr"
+text_of Gerr = codes "gerr"
+text_of Raw = codes "raw"
+text_of Trigger = codes "trigger"
+
+-- its place in the order, from 0 on
+abbrev pub number_of : ItemWord → ℕ
+number_of Sync = 0
+number_of Overflow = 1
+number_of Port = 2
+number_of Counters = 3
+number_of Exception = 4
+number_of Pc = 5
+number_of Asleep = 6
+number_of Cmp = 7
+number_of Hw = 8
+number_of Local = 9
+number_of Global1 = 10
+number_of Global2 = 11
+number_of Ext = 12
+number_of Async = 13
+number_of Version = 14
+number_of Data = 15
+number_of Flag = 16
+number_of Trig = 17
+number_of Freq = 18
+number_of Nullts = 19
+number_of Merr = 20
+number_of Gerr = 21
+number_of Raw = 22
+number_of Trigger = 23
+
+-- the word of what a hardware packet means
+abbrev pub dwt_word : DwtItem → ItemWord
+dwt_word (OfCounters counters) = Counters
+dwt_word (OfException number change) = Exception
+dwt_word (Sample pc) = Pc
+dwt_word OfAsleep = Asleep
+dwt_word (MatchPc comparator pc) = Cmp
+dwt_word (MatchAddress comparator low) = Cmp
+dwt_word (Read comparator size value) = Cmp
+dwt_word (Written comparator size value) = Cmp
+dwt_word (Other disc size value) = Hw
+
+-- of a packet of an ITM source
+abbrev pub itm_word : ItmPacket → ItemWord
+itm_word OfSync = Sync
+itm_word OfOverflow = Overflow
+itm_word (Software port size value) = Port
+itm_word (Hardware disc size value) = dwt_word (name disc size value)
+itm_word (OfLocal lateness delta) = Local
+itm_word (GlobalFirst len value change wrap) = Global1
+itm_word (GlobalSecond wide value) = Global2
+itm_word (Extension dwt value) = Ext
+
+-- of an item of a system trace
+abbrev pub stp_word : StpItem → ItemWord
+stp_word OfAsync = Async
+stp_word (OfVersion version) = Version
+stp_word (MasterError place code) = Merr
+stp_word (GlobalError code) = Gerr
+stp_word (Datum place width value marked stamp) = Data
+stp_word (OfFlag place stamp) = Flag
+stp_word (OfTrig code stamp) = Trig
+stp_word (Frequency hertz stamp) = Freq
+stp_word (NullStamp stamp) = Nullts
+
+-- of a packet of either kind
+abbrev pub packet_word : Packet → ItemWord
+packet_word (Itm packet) = itm_word packet
+packet_word (StpOf item) = stp_word item
+
+-- of what an event tells; the notice of a lock is no item, and has none
+abbrev pub word_of : What Packet → Option ItemWord
+word_of (Locked skipped) = None
+word_of (Said packet) = Some (packet_word packet)
+word_of (OfRaw bytes) = Some Raw
+word_of (OfTrigger byte) = Some Trigger
