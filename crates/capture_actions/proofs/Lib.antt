@@ -13,3 +13,5 @@ pub mod Choosing
 pub mod Few
 pub mod Values
 pub mod Owing
+pub mod Tallies
+pub mod Parts

@@ -1,5 +1,7 @@
 pub mod Names
 pub mod Words
+pub mod KindCounts
+pub mod KindCountsLaws
 pub mod Owed
 pub mod Ring
 pub mod Unring
@@ -31,6 +33,9 @@ pub mod Feeding
 pub mod Summary
 pub mod CheckLaws
 pub mod Check
+pub mod Kinds
+pub mod KindCheck
+pub mod KindCheckLaws
 pub mod Ignored
 pub mod PortText
 pub mod PortTextLaws

@@ -14,7 +14,9 @@ use source_events::{Event, Packet, Plan, SourceKind, Stop};
 use source_machine::Told;
 use source_merge::{Engine, Receiver};
 use trace_stream::{Action, OUTLET_ROOM, Outlet, Progress, TEXT_ROOM};
-use trace_text::{PortCountsLines, TAILS_ROOM, print_fault, print_tails, put_source_counts};
+use trace_text::{
+    PortCountsLines, SOURCE_COUNTS_ROOM, TAILS_ROOM, print_fault, print_tails, put_source_counts,
+};
 use trace_values::{ID_COUNT, SourceId};
 
 /// The most bytes of the line of what a source sent, in a capture.
@@ -103,11 +105,12 @@ fn count_frames(reading: &mut Engine, at: u64, piece: &[u8]) -> usize
 
 /// The line of what a source sent, if it sent a byte.
 pub fn put_source_line(outlet: &mut Outlet, id: SourceId, counts: Counts)
-    requires bytes { counts.bytes ≤ GREATEST_COUNT }
-    requires items { counts.items ≤ GREATEST_COUNT }
     requires room { length outlet.old + TEXT_ROOM ≤ OUTLET_ROOM }
     ensures text { outlet.new ≡ outlet.old ++ source_text id counts }
-    ensures bound { length outlet.new ≤ length outlet.old + SOURCE_ROOM }
+    ensures most { length outlet.new ≤ length outlet.old + SOURCE_COUNTS_ROOM }
+    // of a capture
+    ensures bound { counts.bytes ≤ GREATEST_COUNT → counts.items ≤ GREATEST_COUNT →
+        length outlet.new ≤ length outlet.old + SOURCE_ROOM }
 {
     if counts.bytes != 0 {
         put_source_counts(outlet, id, counts.bytes, counts.items);

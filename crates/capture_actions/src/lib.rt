@@ -7,6 +7,8 @@ mod check;
 mod clocks;
 mod filter;
 mod item_word;
+mod kind_check;
+mod kind_counts;
 pub mod laws;
 mod list_plan;
 mod lister;
@@ -29,6 +31,8 @@ mod unring_plan;
 
 pub use check::{Check, SOURCE_ROOM, SUMMARY_ROOM, put_source_line};
 pub use item_word::{ItemWord, WORD_COUNT, WORDS};
+pub use kind_check::KindCheck;
+pub use kind_counts::KindCounts;
 pub use list_plan::ListPlan;
 pub use lister::Lister;
 pub use port_text::PortText;

@@ -1,0 +1,168 @@
+-- The lines of the kinds, one after the other, and the parts of the summary that has them.
+use Rattle.std.proofs.Common.{◌≡◌, ℕ, zero, suc, ◌+◌, ◌-◌, ◌<◌, ◌≤◌, List, [], ◌∷◌, ◌++◌, length, get_or, set, take, sym, ◌∙◌, ap, subst, refl, arith, Option, None, Some, Bool, true, false, cond, inl, inr, append-nil, append_assoc, flat_map, lit<}
+use Rattle.std.specs.Prelude.{◌==◌, is_none, option_map, nat_lt}
+use Rattle.std.specs.Option.{is_some}
+use Rattle.std.specs.List.{range_with_len}
+use Rattle.std.proofs.lemmas.Bool.{cases_eq}
+use Rattle.std.proofs.lemmas.Grind.{flat_map-append}
+use Rattle.std.proofs.lemmas.List.{get_or-set_same, get_or-set_other, get_or-replicate}
+use Rattle.source_counts.specs.declared.counts.Counts.{Counts}
+use Rattle.source_events.specs.Plan.{kind_of}
+use Rattle.source_events.specs.declared.tails.Tails.{Tails}
+use Rattle.capture_actions.specs.Names.{Event, Packet, Plan, Placed, Place, Reason, Stop, ID_COUNT, Pours, Debt, owing, calls_of}
+use Rattle.capture_actions.specs.Names.{stop_of, fault_of, source_counts_of, port_counts_of, tails_of, port_counts_text, tails_text}
+use Rattle.capture_actions.specs.KindCheck.{parts_by, last_by}
+use Rattle.capture_actions.specs.KindCounts.{HasCounted, number_at}
+use Rattle.capture_actions.specs.Kinds.{kind_text, words_text, kinds_text, source_kinds_text, kinds_in, lines_by, all_lines, kinds_by, none}
+use Rattle.capture_actions.specs.Summary.{source_text}
+use Rattle.capture_actions.specs.Words.{number_of}
+use Rattle.capture_actions.specs.declared.item_word.ItemWord.{ItemWord}
+use Rattle.capture_actions.specs.declared.item_word.TheConstants.{WORDS}
+use Rattle.capture_actions.specs.declared.kind_counts.KindCounts.{KindCounts}
+use Rattle.capture_actions.proofs.Tallies.{few_words}
+
+-- the lines of the first words
+pub words_none : (id : ℕ) (counts : ItemWord → ℕ) (words : List ItemWord) (before : List ℕ) →
+    before ≡ before ++ words_text id counts (take 0 words)
+unfolding words_text
+words_none id counts words before = sym (append-nil before)
+
+pub words_more : (id : ℕ) (counts : ItemWord → ℕ) (front more : List ItemWord) (word : ItemWord)
+    (before old new : List ℕ) → more ≡ front ++ word ∷ [] → old ≡ before ++ words_text id counts front →
+    new ≡ old ++ kind_text id word (counts word) → new ≡ before ++ words_text id counts more
+unfolding words_text
+words_more id counts front more word before old new e f g =
+    let line : ItemWord → List ℕ = λ w. kind_text id w (counts w) in
+    g ∙ ap (λ (l : List ℕ). l ++ line word) f ∙ append_assoc before (flat_map line front) (line word)
+    ∙ ap (λ (l : List ℕ). before ++ l)
+        (sym (ap (flat_map line) e ∙ flat_map-append line front (word ∷ [])
+        ∙ ap (λ (l : List ℕ). flat_map line front ++ l) (append-nil (line word))))
+
+-- the same counts have the same lines
+words_same : (id : ℕ) (f g : ItemWord → ℕ) → ((word : ItemWord) → f word ≡ g word) → (words : List ItemWord) →
+    words_text id f words ≡ words_text id g words
+unfolding words_text
+words_same id f g h [] = refl
+words_same id f g h (word ∷ words) =
+    ap (λ (n : ℕ). kind_text id word n ++ words_text id f words) (h word)
+    ∙ ap (λ (l : List ℕ). kind_text id word (g word) ++ l) (words_same id f g h words)
+
+lines_same : (f g : ℕ → List ℕ) (first count : ℕ) → ((x : ℕ) → x < first + count → f x ≡ g x) →
+    lines_by f first count ≡ lines_by g first count
+unfolding lines_by
+lines_same f g first zero h = refl
+lines_same f g first (suc count) h =
+    ap (λ (l : List ℕ). l ++ lines_by f (first + 1) count) (h first (omega arith))
+    ∙ ap (λ (l : List ℕ). g first ++ l) (lines_same f g (first + 1) count (λ x k. h x (omega arith)))
+
+-- counts that are kept for one more source
+pub counts_more : (counts : List Counts) (n : ℕ) (new : Counts) (of : ℕ → Counts) → n < length counts →
+    ((x : ℕ) → x < n → get_or counts x none ≡ of x) → new ≡ of n →
+    (x : ℕ) → x < n + 1 → get_or (set counts n new) x none ≡ of x
+counts_more counts n new of within h e x few = elim (cases_eq x n) [
+  | inl p ↦ ap (λ (i : ℕ). get_or (set counts n new) i none) p ∙ get_or-set_same counts n new none within ∙ e
+      ∙ ap of (sym p)
+  | inr p ↦ get_or-set_other counts n x new none p ∙ h x (omega arith)
+]
+
+-- the lines of the sources, from what is kept of each
+module _ (plan : Plan) (kinds : KindCounts) (es : List (Event Packet)) (counted : HasCounted kinds es) where
+  abbrev pub kept : ℕ → ItemWord → ℕ
+  kept x word = number_at kinds x (number_of word)
+
+  abbrev pub line : List Counts → ℕ → List ℕ
+  line counts x = source_kinds_text plan x (get_or counts x none) (kept x)
+
+  kinds_same : (x : ℕ) → x < ID_COUNT → (mapped : Bool) →
+      ◌≡◌ {A = List ℕ} (cond mapped (words_text x (kept x) WORDS) []) (cond mapped (words_text x (kinds_in es x) WORDS) [])
+  kinds_same x few false = refl
+  kinds_same x few true =
+      words_same x (kept x) (kinds_in es x) (λ word. counted x (number_of word) few (few_words word)) WORDS
+
+  all_same : (counts : List Counts) (of : ℕ → Counts) → ((x : ℕ) → x < ID_COUNT → get_or counts x none ≡ of x) →
+      lines_by (line counts) 0 ID_COUNT ≡ all_lines plan of es
+  all_same counts of h =
+      lines_same (line counts) (λ x. source_kinds_text plan x (of x) (kinds_in es x)) 0 ID_COUNT
+      (λ x few.
+          let within : x < ID_COUNT = omega arith in
+          ap (λ (c : Counts). source_kinds_text plan x c (kept x)) (h x within)
+          ∙ ap (λ (l : List ℕ). source_text x (of x) ++ l) (kinds_same x within (is_some (kind_of plan x))))
+
+  -- at the end of a capture without a fault
+  pub ended_on : (u : List Placed) (counts : List Counts) (tails : Tails) (stop : Option Stop) (out : List ℕ) →
+      is_none stop ≡ true → option_map stop_of stop ≡ fault_of plan u →
+      ((x : ℕ) → x < ID_COUNT → get_or counts x none ≡ source_counts_of plan u x) → tails ≡ tails_of plan u →
+      (let port = port_counts_of plan u in out ≡ port_counts_text port.fulls port.halves port.frames) →
+      out ++ (lines_by (line counts) 0 ID_COUNT ++ last_by plan stop (Some tails)) ≡ kinds_by plan u es (fault_of plan u)
+  ended_on u counts tails None out on stopped same ends port =
+      ap (λ (l : List ℕ). l ++ (lines_by (line counts) 0 ID_COUNT ++ tails_text tails)) port
+      ∙ (let head = (let p = port_counts_of plan u in port_counts_text p.fulls p.halves p.frames) in
+        ap (λ (l : List ℕ). head ++ (l ++ tails_text tails)) (all_same counts (source_counts_of plan u) same)
+        ∙ ap (λ (t : Tails). head ++ (all_lines plan (source_counts_of plan u) es ++ tails_text t)) ends)
+      ∙ ap (kinds_by plan u es) stopped
+  ended_on u counts tails (Some stop) out on stopped same ends port = cc
+
+  -- at a fault
+  pub ended_at : (u : List Placed) (counts : List Counts) (tails : Option Tails) (stop : Option Stop) →
+      is_none stop ≡ false → option_map stop_of stop ≡ fault_of plan u →
+      ((x : ℕ) → x < ID_COUNT → get_or counts x none ≡ none) →
+      lines_by (line counts) 0 ID_COUNT ++ last_by plan stop tails ≡ kinds_by plan u es (fault_of plan u)
+  ended_at u counts tails None at stopped same = cc
+  ended_at u counts tails (Some stop) at stopped same =
+      ap (λ (l : List ℕ). l ++ last_by plan (Some stop) tails) (all_same counts (λ x. none) same)
+      ∙ ap (kinds_by plan u es) stopped
+
+-- the parts, one after the other
+module _ (line : ℕ → List ℕ) (last : List ℕ) where
+  -- the first of this many and one more
+  abbrev part : ℕ → List ℕ
+  part zero = last
+  part (suc count) = line (ID_COUNT - suc count)
+
+  parts_more : (count : ℕ) → suc count ≤ ID_COUNT →
+      parts_by line last (suc (suc count)) ≡ line (ID_COUNT - suc count) ++ parts_by line last (suc count)
+  unfolding lines_by
+  parts_more count few =
+      let next : ID_COUNT - suc count + 1 ≡ ID_COUNT - count = omega arith in
+      ap (λ (n : ℕ). line (ID_COUNT - suc count) ++ flat_map line (range_with_len n count) ++ last) next
+      ∙ append_assoc (line (ID_COUNT - suc count)) (lines_by line (ID_COUNT - count) count) last
+
+  only_last : parts_by line last 1 ≡ last
+  unfolding lines_by
+  only_last = refl
+
+  abbrev debt : ℕ → Debt
+  debt count = owing (parts_by line last count) count
+
+  pours : (count : ℕ) → count ≤ ID_COUNT → (before : List ℕ) →
+      Pours (debt (suc count)) (debt count) before (before ++ part count) true
+  pours zero few before = record {
+    put = ap (λ (l : List ℕ). before ++ l) (sym only_last);
+    fewer = λ h. lit< tt;
+    none = λ h. cc;
+  }
+  pours (suc count) few before = record {
+    put = append_assoc before (line (ID_COUNT - suc count)) (parts_by line last (suc count))
+        ∙ ap (λ (l : List ℕ). before ++ l) (sym (parts_more count few));
+    fewer = λ h. omega arith;
+    none = λ h. cc;
+  }
+
+  -- the last of all
+  pub pours_last : (old new : ℕ) (before after : List ℕ) → new ≡ old - 1 → 0 < old → new ≡ 0 →
+      after ≡ before ++ last → Pours (debt old) (debt new) before after true
+  pours_last old new before after e some h put =
+      let k : old ≡ 1 = omega arith in
+      subst (λ (n : ℕ). Pours (debt n) (debt new) before after true) (sym k)
+      (subst (λ (n : ℕ). Pours (debt 1) (debt n) before after true) (sym h)
+      (subst (λ (l : List ℕ). Pours (debt 1) (debt 0) before l true) (sym put) (pours 0 (omega arith) before)))
+
+  -- one of the others
+  pub pours_line : (new : ℕ) (before after : List ℕ) (old : ℕ) → new ≡ old - 1 → old ≤ ID_COUNT + 1 → 0 < new →
+      after ≡ before ++ line (ID_COUNT - new) → Pours (debt old) (debt new) before after true
+  pours_line zero before after old e few some put = absurd (omega arith)
+  pours_line (suc count) before after old e few some put =
+      let k : old ≡ suc (suc count) = omega arith in
+      subst (λ (n : ℕ). Pours (debt n) (debt (suc count)) before after true) (sym k)
+      (subst (λ (l : List ℕ). Pours (debt (suc (suc count))) (debt (suc count)) before l true) (sym put)
+      (pours (suc count) (omega arith) before))

@@ -1,0 +1,20 @@
+-- How the summary with kinds stays after a fault.
+use Rattle.std.specs.Prelude.{[], refl, List, ◌++◌}
+use Rattle.std.proofs.Common.{ap, ◌∙◌}
+use Rattle.capture_actions.specs.Names.{IsLawful, Plan, Event, Packet, placed, report_of, fault_of}
+use Rattle.capture_actions.specs.FaultyLaws as laws
+use Rattle.capture_actions.specs.Kinds.{kinds_meaning, kinds_by}
+
+pub kinds_lawful : (plan : Plan) → IsLawful (kinds_meaning plan)
+kinds_lawful plan = record {
+  never_at_first = laws.none_at_first plan;
+  nothing_at_first = refl;
+  faulty_stays = laws.faulty_stays plan;
+  text_stays = λ xs ys h. refl;
+  ending_stays = λ xs ys h.
+      let es = report_of plan (placed xs) in
+      ap (λ (l : List (Event Packet)). kinds_by plan (placed (xs ++ ys)) l (fault_of plan (placed (xs ++ ys))))
+          (laws.same_report plan xs ys h)
+      ∙ laws.ending_stays plan (λ u fault. kinds_by plan u es fault) (λ u w fault. refl) xs ys h;
+  text_grows = λ xs ys. ([], refl);
+}

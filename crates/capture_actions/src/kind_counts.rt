@@ -1,0 +1,138 @@
+//! What counts the items of each source by the words with which their texts begin, as they come.
+
+ghost use Rattle.std.specs.Prelude.{◌≡◌, ◌+◌, ◌*◌, ◌<◌, ◌++◌, ◌∷◌, [], ℕ, List, Some, None};
+ghost use Rattle.capture_actions.specs.Names.{Event, Packet, EventFits, PacketFits};
+ghost use Rattle.capture_actions.specs.Words.{word_of, number_of};
+ghost use Rattle.capture_actions.specs.KindCounts.{HasCounted, number_at};
+
+use crate::item_word::{ItemWord, WORD_COUNT};
+use source_events::{Event, Packet, SourceKind};
+use source_machine::Told;
+use source_merge::Receiver;
+use trace_values::{ID_COUNT, SourceId};
+
+/// A number for each word of each source.
+const NUMBERS: usize = ID_COUNT * WORD_COUNT;
+
+/// Events that are only counted need no room: more than those of any piece.
+const MANY: usize = 1 << 40;
+
+/// How many items of each word each source sent, up to 2^64 - 1.
+#[derive(Debug, Drop)]
+pub struct KindCounts {
+    numbers: [u64; NUMBERS],
+}
+
+/// The place of the number of this word of this source.
+#[inline(always)]
+fn place_of(id: SourceId, word: ItemWord) -> usize
+    ensures place { result ≡ WORD_COUNT * id + number_of word }
+    ensures within { result < NUMBERS }
+{
+    WORD_COUNT * usize::from(id.number()) + word.number()
+}
+
+impl KindCounts {
+    /// No event came yet.
+    pub fn new() -> KindCounts
+        ensures { HasCounted result [] }
+    {
+        KindCounts {
+            numbers: [0; NUMBERS],
+        }
+    }
+
+    /// How many items of this word this source sent.
+    pub fn of(&self, id: SourceId, word: ItemWord) -> u64
+        ensures { result ≡ number_at self.now id (number_of word) }
+    {
+        self.numbers[place_of(id, word)]
+    }
+
+    /// Counts an item of this word of this source.
+    #[inline(always)]
+    fn add(&mut self, id: SourceId, word: ItemWord)
+        ensures { (es : List (Event Packet)) (event : Event Packet) → event.source ≡ Some id →
+            word_of event.what ≡ Some word → HasCounted self.old es → HasCounted self.new (es ++ event ∷ []) }
+    {
+        let place = place_of(id, word);
+        self.numbers[place] = self.numbers[place].saturating_add(1);
+    }
+
+    /// An event of no source, or which is no item, leaves the counts as they are.
+    #[inline(always)]
+    fn pass(&self)
+        ensures source { (es : List (Event Packet)) (event : Event Packet) → event.source ≡ None →
+            HasCounted self.now es → HasCounted self.now (es ++ event ∷ []) }
+        ensures notice { (es : List (Event Packet)) (event : Event Packet) → word_of event.what ≡ None →
+            HasCounted self.now es → HasCounted self.now (es ++ event ∷ []) }
+    {}
+
+    /// Counts the next event.
+    #[inline]
+    fn add_event(&mut self, event: &Event<Packet>)
+        requires fits { EventFits PacketFits event.now }
+        ensures { (es : List (Event Packet)) → HasCounted self.old es → HasCounted self.new (es ++ event.now ∷ []) }
+    {
+        match (event.source, ItemWord::of_event(event)) {
+            (Some(id), Some(word)) => self.add(id, word),
+            _ => self.pass(),
+        }
+    }
+}
+
+/// Of all events only their number is kept.
+impl Receiver for KindCounts {
+    ghost use Rattle.std.specs.Prelude.{⊤};
+    ghost use Rattle.capture_actions.specs.KindCounts.{gets, room};
+    ghost use Rattle.capture_actions.specs.KindCountsLaws.{gets_none, gets_more};
+
+    type To = ();
+
+    ghost gets = { gets };
+
+    ghost room = { room };
+
+    ghost takes = { λ counts source kind. ⊤ };
+
+    ghost gets_none = { gets_none };
+
+    ghost gets_more = { gets_more };
+
+    #[inline(always)]
+    fn give(&mut self, _to: &mut (), event: Event<Packet>) {
+        self.add_event(&event);
+    }
+
+    #[inline(always)]
+    fn events_left(&self, _to: &()) -> usize {
+        MANY
+    }
+
+    #[inline(always)]
+    fn takes_told(&self, _source: SourceId, _kind: SourceKind) -> bool {
+        true
+    }
+
+    #[inline(always)]
+    fn give_told(&mut self, _to: &mut (), _at: u64, _half: u8, source: SourceId, told: Told) {
+        match told {
+            Told::Itm(packet) => self.add(source, ItemWord::of_packet(&packet)),
+            Told::Stp(said) => {
+                if let Some(item) = said.item() {
+                    self.add(source, ItemWord::of_item(&item));
+                }
+            }
+        }
+    }
+
+    #[inline(always)]
+    fn give_raw(&mut self, _to: &mut (), _at: u64, source: SourceId, _bytes: &[u8]) {
+        self.add(source, ItemWord::Raw);
+    }
+
+    #[inline(always)]
+    fn give_trigger(&mut self, _to: &mut (), _at: u64, source: SourceId, _byte: u8) {
+        self.add(source, ItemWord::Trigger);
+    }
+}
