@@ -1,6 +1,6 @@
 -- The lines of the kinds, one after the other, and the parts of the summary that has them.
 use Rattle.std.proofs.Common.{◌≡◌, ℕ, zero, suc, ◌+◌, ◌-◌, ◌<◌, ◌≤◌, List, [], ◌∷◌, ◌++◌, length, get_or, set, take, sym, ◌∙◌, ap, subst, refl, arith, Option, None, Some, Bool, true, false, cond, inl, inr, append-nil, append_assoc, flat_map, lit<}
-use Rattle.std.specs.Prelude.{◌==◌, is_none, option_map, nat_lt}
+use Rattle.std.specs.Prelude.{option_map}
 use Rattle.std.specs.Option.{is_some}
 use Rattle.std.specs.List.{range_with_len}
 use Rattle.std.proofs.lemmas.Bool.{cases_eq}
@@ -9,7 +9,7 @@ use Rattle.std.proofs.lemmas.List.{get_or-set_same, get_or-set_other, get_or-rep
 use Rattle.source_counts.specs.declared.counts.Counts.{Counts}
 use Rattle.source_events.specs.Plan.{kind_of}
 use Rattle.source_events.specs.declared.tails.Tails.{Tails}
-use Rattle.capture_actions.specs.Names.{Event, Packet, Plan, Placed, Place, Reason, Stop, ID_COUNT, Pours, Debt, owing, calls_of}
+use Rattle.capture_actions.specs.Names.{Event, Packet, Plan, Placed, Place, Reason, Stop, ID_COUNT, Pours, Debt, Paid, owing, with_debt}
 use Rattle.capture_actions.specs.Names.{stop_of, fault_of, source_counts_of, port_counts_of, tails_of, port_counts_text, tails_text}
 use Rattle.capture_actions.specs.KindCheck.{parts_by, last_by}
 use Rattle.capture_actions.specs.KindCounts.{HasCounted, number_at}
@@ -90,7 +90,7 @@ module _ (plan : Plan) (kinds : KindCounts) (es : List (Event Packet)) (counted 
 
   -- at the end of a capture without a fault
   pub ended_on : (u : List Placed) (counts : List Counts) (tails : Tails) (stop : Option Stop) (out : List ℕ) →
-      is_none stop ≡ true → option_map stop_of stop ≡ fault_of plan u →
+      is_some stop ≡ false → option_map stop_of stop ≡ fault_of plan u →
       ((x : ℕ) → x < ID_COUNT → get_or counts x none ≡ source_counts_of plan u x) → tails ≡ tails_of plan u →
       (let port = port_counts_of plan u in out ≡ port_counts_text port.fulls port.halves port.frames) →
       out ++ (lines_by (line counts) 0 ID_COUNT ++ last_by plan stop (Some tails)) ≡ kinds_by plan u es (fault_of plan u)
@@ -104,7 +104,7 @@ module _ (plan : Plan) (kinds : KindCounts) (es : List (Event Packet)) (counted 
 
   -- at a fault
   pub ended_at : (u : List Placed) (counts : List Counts) (tails : Option Tails) (stop : Option Stop) →
-      is_none stop ≡ false → option_map stop_of stop ≡ fault_of plan u →
+      is_some stop ≡ true → option_map stop_of stop ≡ fault_of plan u →
       ((x : ℕ) → x < ID_COUNT → get_or counts x none ≡ none) →
       lines_by (line counts) 0 ID_COUNT ++ last_by plan stop tails ≡ kinds_by plan u es (fault_of plan u)
   ended_at u counts tails None at stopped same = cc
@@ -166,3 +166,9 @@ module _ (line : ℕ → List ℕ) (last : List ℕ) where
       subst (λ (n : ℕ). Pours (debt n) (debt (suc count)) before after true) (sym k)
       (subst (λ (l : List ℕ). Pours (debt (suc (suc count))) (debt (suc count)) before l true) (sym put)
       (pours (suc count) (omega arith) before))
+
+-- where nothing is owed nothing is, whatever else the parts are then
+pub still_paid : (old new : ℕ → List ℕ) (left : ℕ) (out : List ℕ) → owing (old left) left ≡ Paid →
+    with_debt out (owing (new left) left) ≡ out ++ []
+still_paid old new zero out paid = sym (append-nil out)
+still_paid old new (suc left) out paid = cc

@@ -1,11 +1,14 @@
-use Rattle.std.proofs.Common.{◌≡◌, ◌∙◌, ◌+◌, ◌++◌, [], ℕ, Bool, List, refl, sym, ap, subst, take, append-nil}
+use Rattle.std.proofs.Common.{◌≡◌, ◌∙◌, ◌+◌, ◌++◌, [], ℕ, Bool, List, refl, sym, ap, subst, take, get_or}
 use Rattle.std.specs.Prelude.{option_map}
 use Rattle.capture_actions.specs.Names.{Event, Packet, FaultAfter, placed, report_of, stop_of}
 use Rattle.source_merge.specs.Engine as engine
 use Rattle.capture_actions.specs.Faulty.{IsFaulty}
-use Rattle.capture_actions.specs.KindCheck.{plan_of}
-use Rattle.capture_actions.specs.KindCounts.{HasCounted}
+use Rattle.capture_actions.specs.KindCheck.{plan_of, line_of, last_by, parts_by}
+use Rattle.capture_actions.specs.KindCounts.{HasCounted, number_at}
+use Rattle.capture_actions.specs.Kinds.{source_kinds_text, none}
+use Rattle.capture_actions.specs.Words.{number_of}
 use Rattle.capture_actions.proofs.Feeding.{stands_after, report_after, stop_after, flow_after}
+use Rattle.capture_actions.proofs.Parts.{still_paid}
 use Rattle.capture_actions.proofs.kind_check.KindCheckAction.feed.Goals as goal
 
 pub returns-clause-fed : goal.returns-clause-fed
@@ -33,7 +36,11 @@ returns-clause-fed c = λ seen s.
       };
       more = [];
       grown = refl;
-      gained = sym (append-nil c.args._outlet.now);
+      gained = still_paid (parts_by (line_of old) (last_by p old.stop old.tails))
+          (parts_by (λ id. source_kinds_text (engine.plan_of new) id (get_or old.counts id none)
+          (λ word. number_at one.new.out id (number_of word)))
+          (last_by (engine.plan_of new) c.keep_stop-is_faulty.new.stop old.tails)) old.left c.args._outlet.now
+          c.requires.paid;
       fault = subst (λ (f : Bool). FaultAfter (IsFaulty p) (seen ++ bytes) f)
           (sym c.keep_stop-is_faulty.ensures.flow)
           (flow_after old.engine new seen bytes at given fed.flow s.engine c.next-at.ensures same list reads);
