@@ -15,3 +15,4 @@ pub mod Values
 pub mod Owing
 pub mod Tallies
 pub mod Parts
+pub mod Kinded

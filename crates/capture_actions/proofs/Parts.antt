@@ -35,8 +35,8 @@ words_more id counts front more word before old new e f g =
     let line : ItemWord → List ℕ = λ w. kind_text id w (counts w) in
     g ∙ ap (λ (l : List ℕ). l ++ line word) f ∙ append_assoc before (flat_map line front) (line word)
     ∙ ap (λ (l : List ℕ). before ++ l)
-        (sym (ap (flat_map line) e ∙ flat_map-append line front (word ∷ [])
-        ∙ ap (λ (l : List ℕ). flat_map line front ++ l) (append-nil (line word))))
+    (sym (ap (flat_map line) e ∙ flat_map-append line front (word ∷ [])
+    ∙ ap (λ (l : List ℕ). flat_map line front ++ l) (append-nil (line word))))
 
 -- the same counts have the same lines
 words_same : (id : ℕ) (f g : ItemWord → ℕ) → ((word : ItemWord) → f word ≡ g word) → (words : List ItemWord) →
@@ -84,9 +84,9 @@ module _ (plan : Plan) (kinds : KindCounts) (es : List (Event Packet)) (counted 
   all_same counts of h =
       lines_same (line counts) (λ x. source_kinds_text plan x (of x) (kinds_in es x)) 0 ID_COUNT
       (λ x few.
-          let within : x < ID_COUNT = omega arith in
-          ap (λ (c : Counts). source_kinds_text plan x c (kept x)) (h x within)
-          ∙ ap (λ (l : List ℕ). source_text x (of x) ++ l) (kinds_same x within (is_some (kind_of plan x))))
+      let within : x < ID_COUNT = omega arith in
+      ap (λ (c : Counts). source_kinds_text plan x c (kept x)) (h x within)
+      ∙ ap (λ (l : List ℕ). source_text x (of x) ++ l) (kinds_same x within (is_some (kind_of plan x))))
 
   -- at the end of a capture without a fault
   pub ended_on : (u : List Placed) (counts : List Counts) (tails : Tails) (stop : Option Stop) (out : List ℕ) →
@@ -97,8 +97,8 @@ module _ (plan : Plan) (kinds : KindCounts) (es : List (Event Packet)) (counted 
   ended_on u counts tails None out on stopped same ends port =
       ap (λ (l : List ℕ). l ++ (lines_by (line counts) 0 ID_COUNT ++ tails_text tails)) port
       ∙ (let head = (let p = port_counts_of plan u in port_counts_text p.fulls p.halves p.frames) in
-        ap (λ (l : List ℕ). head ++ (l ++ tails_text tails)) (all_same counts (source_counts_of plan u) same)
-        ∙ ap (λ (t : Tails). head ++ (all_lines plan (source_counts_of plan u) es ++ tails_text t)) ends)
+      ap (λ (l : List ℕ). head ++ (l ++ tails_text tails)) (all_same counts (source_counts_of plan u) same)
+      ∙ ap (λ (t : Tails). head ++ (all_lines plan (source_counts_of plan u) es ++ tails_text t)) ends)
       ∙ ap (kinds_by plan u es) stopped
   ended_on u counts tails (Some stop) out on stopped same ends port = cc
 

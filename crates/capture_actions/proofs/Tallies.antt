@@ -75,7 +75,7 @@ module _ (counts : KindCounts) (es : List (Event Packet)) (e : Event Packet) (h 
   stays x k lx lk none =
       h x k lx lk
       ∙ ap (λ (n : ℕ). min n MOST)
-          (sym (count_push x k es e ∙ ap (λ (n : ℕ). count_at x k es + n) none ∙ add-zero (count_at x k es)))
+      (sym (count_push x k es e ∙ ap (λ (n : ℕ). count_at x k es + n) none ∙ add-zero (count_at x k es)))
 
   pub no_source : e.source ≡ None → HasCounted counts (es ++ e ∷ [])
   no_source source x k lx lk =
@@ -99,9 +99,9 @@ module _ (counts : KindCounts) (es : List (Event Packet)) (e : Event Packet) (h 
         bit ((id == x) && (number_of word == k)) ≡ 0
     elsewhere x k lk off = elim (cases_eq x id) [
       | inl p ↦ (elim (cases_eq k (number_of word)) [
-          | inl q ↦ absurd (off (let n = number_of word in omega arith))
-          | inr q ↦ ap (λ (b : Bool). bit ((id == x) && b)) (other (number_of word) k q) ∙ never (id == x)
-        ])
+        | inl q ↦ absurd (off (let n = number_of word in omega arith))
+        | inr q ↦ ap (λ (b : Bool). bit ((id == x) && b)) (other (number_of word) k q) ∙ never (id == x)
+      ])
       | inr p ↦ ap (λ (b : Bool). bit (b && (number_of word == k))) (other id x p)
     ]
 
@@ -116,12 +116,12 @@ module _ (counts : KindCounts) (es : List (Event Packet)) (e : Event Packet) (h 
         let q : k ≡ n = omega arith in
         more
         ∙ capped (count_at x k es) (get_or counts.numbers place 0)
-            (ap (λ (i : ℕ). get_or counts.numbers i 0) (sym at) ∙ h x k lx lk)
+        (ap (λ (i : ℕ). get_or counts.numbers i 0) (sym at) ∙ h x k lx lk)
         ∙ ap (λ (m : ℕ). min m MOST)
-            (sym (count_push x k es e
-            ∙ ap (λ (m : ℕ). count_at x k es + m)
-                (adds x k ∙ ap (λ (b : Bool). bit (b && (n == k))) (same id x p)
-                ∙ ap bit (same n k q))))
+        (sym (count_push x k es e
+        ∙ ap (λ (m : ℕ). count_at x k es + m)
+        (adds x k ∙ ap (λ (b : Bool). bit (b && (n == k))) (same id x p)
+        ∙ ap bit (same n k q))))
 
     pub counted_after : HasCounted (record { numbers = set counts.numbers place new }) (es ++ e ∷ [])
     counted_after x k lx lk = elim (cases_eq (WORD_COUNT * x + k) place) [

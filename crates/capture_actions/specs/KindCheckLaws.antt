@@ -14,7 +14,7 @@ kinds_lawful plan = record {
   ending_stays = λ xs ys h.
       let es = report_of plan (placed xs) in
       ap (λ (l : List (Event Packet)). kinds_by plan (placed (xs ++ ys)) l (fault_of plan (placed (xs ++ ys))))
-          (laws.same_report plan xs ys h)
+      (laws.same_report plan xs ys h)
       ∙ laws.ending_stays plan (λ u fault. kinds_by plan u es fault) (λ u w fault. refl) xs ys h;
   text_grows = λ xs ys. ([], refl);
 }

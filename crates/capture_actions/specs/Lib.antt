@@ -43,4 +43,5 @@ pub mod PortValues
 pub mod PortValuesLaws
 pub mod PortTexter
 pub mod Rows
+pub mod KindRows
 pub mod Stopping

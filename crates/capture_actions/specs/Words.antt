@@ -1,5 +1,5 @@
 -- The words with which the texts of items begin: the third field of the lines of a listing.
-use Rattle.std.specs.Prelude.{ℕ, List, codes, Option, None, Some}
+use Rattle.std.specs.Prelude.{◌≡◌, ℕ, List, [], ◌∷◌, ◌++◌, codes, Option, None, Some}
 use Rattle.dwt_packets.specs.Table.{name}
 use Rattle.dwt_packets.specs.declared.item.DwtItem.{DwtItem}
 use Rattle.dwt_packets.specs.declared.item.DwtItem.TheVariants.{Counters as OfCounters, Exception as OfException, Sample}
@@ -120,3 +120,14 @@ word_of (Locked skipped) = None
 word_of (Said packet) = Some (packet_word packet)
 word_of (OfRaw bytes) = Some Raw
 word_of (OfTrigger byte) = Some Trigger
+
+-- nothing, or a blank and more
+abbrev pub IsRest : List ℕ → Type 0
+IsRest [] = Unit {0}
+IsRest (byte ∷ bytes) = byte ≡ 32
+
+-- it is the first word of this text
+pub record Begins (text : List ℕ) (word : ItemWord) : Type 0 where
+  pub more : List ℕ
+  pub parts : text ≡ text_of word ++ more
+  pub rest : IsRest more

@@ -9,6 +9,8 @@ mod filter;
 mod item_word;
 mod kind_check;
 mod kind_counts;
+pub mod kind_laws;
+pub mod kind_rows;
 pub mod laws;
 mod list_plan;
 mod lister;

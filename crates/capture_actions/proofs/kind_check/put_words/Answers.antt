@@ -1,4 +1,4 @@
-use Rattle.std.proofs.Common.{◌≡◌, ◌+◌, ◌*◌, ◌<◌, ◌≤◌, length, get_or, take, ℕ, arith, ap, ◌∙◌, ◌++◌}
+use Rattle.std.proofs.Common.{◌+◌, get_or, take, ℕ, arith, ap, ◌∙◌, ◌++◌}
 use Rattle.std.proofs.lemmas.List.{take_more}
 use Rattle.capture_actions.specs.KindCounts.{number_at}
 use Rattle.capture_actions.specs.Kinds.{kind_text}

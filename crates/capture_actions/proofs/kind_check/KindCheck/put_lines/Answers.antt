@@ -1,4 +1,4 @@
-use Rattle.std.proofs.Common.{◌≡◌, ◌∙◌, ◌++◌, ℕ, List, ap, append_assoc, get_or}
+use Rattle.std.proofs.Common.{◌∙◌, ◌++◌, ℕ, List, ap, append_assoc, get_or}
 use Rattle.capture_actions.specs.Names.{Plan}
 use Rattle.capture_actions.specs.KindCheck.{plan_of}
 use Rattle.capture_actions.specs.KindCounts.{number_at}
@@ -19,6 +19,6 @@ returns c =
     c.put_kinds.ensures.text
     ∙ ap (λ (p : Plan). c.put_source_line.new.outlet ++ kinds_text p id counts) c.plan.ensures
     ∙ ap (λ (l : List ℕ). l ++ kinds)
-        (c.put_source_line.ensures.text
-        ∙ ap (λ (i : ℕ). out ++ source_text id (get_or self.counts i none)) (c.from.ensures ∙ c.number.ensures.value))
+    (c.put_source_line.ensures.text
+    ∙ ap (λ (i : ℕ). out ++ source_text id (get_or self.counts i none)) (c.from.ensures ∙ c.number.ensures.value))
     ∙ append_assoc out source kinds

@@ -1,4 +1,4 @@
-use Rattle.std.proofs.Common.{◌≡◌, ◌∙◌, ◌+◌, ◌++◌, [], ℕ, Bool, List, refl, sym, ap, subst, take, get_or}
+use Rattle.std.proofs.Common.{◌∙◌, ◌++◌, [], Bool, List, refl, sym, ap, subst, take, get_or}
 use Rattle.std.specs.Prelude.{option_map}
 use Rattle.capture_actions.specs.Names.{Event, Packet, FaultAfter, placed, report_of, stop_of}
 use Rattle.source_merge.specs.Engine as engine

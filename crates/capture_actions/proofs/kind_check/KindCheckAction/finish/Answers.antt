@@ -3,7 +3,7 @@ use Rattle.std.proofs.lemmas.List.{get_or-replicate}
 use Rattle.std.proofs.Math.ListN.{replicate}
 use Rattle.source_counts.specs.declared.counts.Counts.{Counts}
 use Rattle.capture_actions.specs.Names.{placed, report_of, port_counts_of, port_counts_text}
-use Rattle.capture_actions.specs.KindCheck.{plan_of, line_of, last_by}
+use Rattle.capture_actions.specs.KindCheck.{plan_of, last_by}
 use Rattle.capture_actions.specs.Kinds.{lines_by, none}
 use Rattle.capture_actions.proofs.Parts.{ended_on, ended_at, line}
 use Rattle.capture_actions.proofs.kind_check.KindCheckAction.finish.Goals as goal
@@ -16,7 +16,7 @@ returns-then-is_some-clause-ended c = λ seen s.
     let es = report_of p u in
     let rows : List Counts = replicate 127 none in
     ap (λ (l : List ℕ). l ++ (lines_by (line p old.kinds es s.kinds rows) 0 127 ++ last_by p old.stop old.tails))
-        c.requires.empty
+    c.requires.empty
     ∙ ended_at p old.kinds es s.kinds u rows old.tails old.stop (search rules) s.stop
     (λ x few. get_or-replicate 127 x none none few)
 

@@ -1,4 +1,4 @@
-use Rattle.std.proofs.Common.{◌-◌, ◌<◌, ◌≤◌, ◌+◌, refl, arith, rules}
+use Rattle.std.proofs.Common.{◌-◌, refl, arith}
 use Rattle.capture_actions.specs.KindCheck.{line_of, last_by, plan_of}
 use Rattle.capture_actions.proofs.Parts.{pours_last, pours_line}
 use Rattle.capture_actions.proofs.kind_check.KindCheckAction.pour.Goals as goal

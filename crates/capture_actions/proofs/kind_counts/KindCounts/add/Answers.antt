@@ -1,9 +1,4 @@
-use Rattle.std.proofs.Common.{◌≡◌, ◌+◌, ◌<◌, length, get_or, arith, rules, ◌∙◌, ap}
-use Rattle.std.specs.Prelude.{min}
-use Rattle.std.proofs.lemmas.List.{get_or_default}
-use Rattle.capture_actions.specs.Words.{number_of}
-use Rattle.capture_actions.specs.KindCounts.{MOST}
-use Rattle.capture_actions.specs.declared.item_word.TheConstants.{WORD_COUNT}
+use Rattle.std.proofs.Common.{◌<◌, length, rules}
 use Rattle.capture_actions.proofs.Tallies.{counted_after, few_words}
 use Rattle.capture_actions.proofs.kind_counts.KindCounts.add.Goals as goal
 
