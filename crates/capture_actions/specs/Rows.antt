@@ -4,7 +4,6 @@ use Rattle.capture_actions.specs.Names.{FramesMode, Plan, Choice}
 use Rattle.trace_values.specs.declared.reading_modes.PacketsMode.{PacketsMode}
 use Rattle.stp_grammar.specs.declared.packet.Order.TheVariants.{Msn, Lsn}
 use Rattle.trace_values.specs.Hex.{hex}
-use Rattle.capture_actions.specs.Kinds.{kinds_summary}
 use Rattle.capture_actions.specs.Listing.{listing}
 use Rattle.capture_actions.specs.PortText.{port_text}
 use Rattle.capture_actions.specs.Summary.{summary}
@@ -49,10 +48,6 @@ both_row choices first last plan text =
 -- and its summary
 abbrev pub summary_row : Plan → List ℕ → List ℕ
 summary_row plan text = summary plan (hex text)
-
--- and that with the kinds
-abbrev pub kinds_row : Plan → List ℕ → List ℕ
-kinds_row plan text = kinds_summary plan (hex text)
 
 -- and what software wrote to a port
 abbrev pub text_row : ℕ → Plan → List ℕ → List ℕ

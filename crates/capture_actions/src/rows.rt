@@ -5,8 +5,7 @@ ghost use Rattle.trace_values.specs.declared.reading_modes.FramesMode.TheVariant
 ghost use Rattle.trace_values.specs.declared.reading_modes.PacketsMode.TheVariants.{Hunt, Aligned};
 ghost use Rattle.item_tap.specs.declared.choice.Choice.TheVariants.{OfKind, Source, Port, Time};
 ghost use Rattle.item_tap.specs.declared.choice.Kind.TheVariants.{Itm, Dwt, Stp, Raw};
-ghost use Rattle.capture_actions.specs.Rows.{raw, itm, stp, stp_lsn, both, mixed, listing_row, chosen_row, window_row};
-ghost use Rattle.capture_actions.specs.Rows.{both_row, text_row, summary_row, kinds_row};
+ghost use Rattle.capture_actions.specs.Rows.{raw, itm, stp, stp_lsn, both, mixed, listing_row, chosen_row, window_row, both_row, text_row, summary_row};
 
 /// Sources that are not mapped: raw bytes by run, bytes of the trigger source, and the port's lock.
 pub fn raw_sources()
@@ -115,15 +114,4 @@ pub fn summaries()
         codes "full 1\nhalf 0\nframes 1\n0 bytes 5 items 0\n1 bytes 8 items 2\nend 20\nport aligned skipped 0 tail 0 unattributed 0\n1 itm aligned skipped 0 tail 0\n" }
     ensures fault { summary_row (raw FramesAligned) (codes "FF 00") ≡ codes "fault 1 port 1 BadSync\n" }
     ensures bare { summary_row (raw Bare) (codes "FF 00") ≡ codes "full 0\nhalf 0\nframes 2\n1 bytes 2 items 2\nend 2\nport bare skipped 0 tail 0 unattributed 0\n" }
-{}
-
-/// What is counted by kinds: of a bare capture, up to a fault, and of frames with an ITM source, an STP source and a raw
-/// one.
-pub fn kinds()
-    ensures nothing { kinds_row (raw FramesHunt) (codes "") ≡ codes "full 0\nhalf 0\nframes 0\nend 0\nport hunting skipped 0 tail 0 unattributed 0\n" }
-    ensures bare { kinds_row (itm Bare Aligned 1) (codes "00 00 00 00 00 80 01 41 01 42 0E 0F 10 15 00 8D 2A 1D 07 20") ≡
-        codes "full 0\nhalf 0\nframes 20\n1 bytes 20 items 8\n1 kind sync 1\n1 kind port 2\n1 kind exception 1\n1 kind asleep 1\n1 kind cmp 1\n1 kind hw 1\n1 kind local 1\nend 20\nport bare skipped 0 tail 0 unattributed 0\n1 itm aligned skipped 0 tail 0\n" }
-    ensures fault { kinds_row (itm Bare Aligned 1) (codes "03 00 00 00 00 01 41 80") ≡ codes "1 kind port 2\nfault 7 1 3 ReservedHeader\n" }
-    ensures framed { kinds_row (both FramesHunt Hunt 1 2) mixed ≡
-        codes "full 1\nhalf 0\nframes 3\n1 bytes 11 items 2\n1 kind sync 1\n1 kind port 1\n2 bytes 17 items 2\n2 kind async 1\n2 kind data 1\n16 bytes 1 items 1\nend 52\nport locked skipped 0 tail 0 unattributed 0\n1 itm locked skipped 0 tail 0\n2 stp locked skipped 0 tail 0\n" }
 {}
