@@ -1,6 +1,7 @@
 -- One more byte.
 use Rattle.std.proofs.Common.{◌≡◌, ℕ, suc, ◌+◌, ◌-◌, ◌≤◌, List, [], ◌∷◌, ◌++◌, refl, sym, ◌∙◌, ap, arith, subst}
-use Rattle.std.proofs.Common.{append_assoc, append-nil, drop, get_or, length, take, Option, None, Some, Bool, true, false}
+use Rattle.std.proofs.Common.{append_assoc, append-nil, drop, get_or, length, take}
+use Rattle.std.proofs.Common.{Option, None, Some, Bool, true, false}
 use Rattle.std.specs.Prelude.{map}
 use Rattle.std.proofs.lemmas.List.{length-take-le, length_push, map-append}
 use Rattle.std.proofs.lemmas.List.Sums.{sum_by_push}
@@ -28,7 +29,8 @@ use Rattle.stretch_readings.specs.Stretches.{Stretch, Stretches, One, fed, fed_f
 use Rattle.stretch_readings.proofs.StretchLaws.{from_append}
 use Rattle.trace_values.proofs.Standings.{none_of}
 use Rattle.deformatter.proofs.Readings.{shows}
-use Rattle.recovering_machines.specs.Port.{IsFed, Keeps, Stands, items_by, from_halfword, raised, with_bytes, with_units}
+use Rattle.recovering_machines.specs.Port.{IsFed, Keeps, Stands, items_by}
+use Rattle.recovering_machines.specs.Port.{from_halfword, raised, with_bytes, with_units}
 use Rattle.recovering_machines.specs.declared.port.RecoveringPort.{RecoveringPort}
 
 -- the port's reading beside the generic one

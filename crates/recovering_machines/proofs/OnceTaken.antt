@@ -77,7 +77,8 @@ module _ (old new : RecoveringSource) (same_past : new.past ≡ old.past) (same_
             reading = same_reading ∙ k.keeps.reading ∙ ap (λ (f : Bool → List Placed → Stream Packet). f r.now.hunts)
                 (sym same_reads);
             past_is = same_past ∙ k.keeps.past_is
-                ∙ ap (λ (f : Bool → List Placed → Stream Packet). sum_by (lost_in f from_fault) r.past) (sym same_reads);
+                ∙ ap (λ (f : Bool → List Placed →
+                Stream Packet). sum_by (lost_in f from_fault) r.past) (sym same_reads);
             count_is = same_count ∙ k.keeps.count_is;
           };
       hunts = same_hunts ∙ k.hunts;
@@ -101,12 +102,14 @@ module _ (old new : RecoveringSource) (same_past : new.past ≡ old.past) (same_
 -- what it stood for it stands for, where nothing was taken
 pub stays : (old new : RecoveringSource) → new.past ≡ old.past → new.count ≡ old.count → new.hunts ≡ old.hunts →
     reads_on new.machine ≡ reads_on old.machine → reading_on new.machine ≡ reading_on old.machine →
-    ((n : List Placed) → StandsOn old.machine n → StandsOn new.machine n) → (r : Stretches) → Stands old r → Stands new r
+    ((n : List Placed) → StandsOn old.machine n → StandsOn new.machine n) → (r : Stretches) → Stands old r →
+    Stands new r
 stays old new past count hunts reads reading list r k = record {
   keeps =
       record {
         stands = list r.now.units k.keeps.stands;
-        reading = reading ∙ k.keeps.reading ∙ ap (λ (f : Bool → List Placed → Stream Packet). f r.now.hunts) (sym reads);
+        reading = reading ∙ k.keeps.reading ∙ ap (λ (f : Bool → List Placed →
+            Stream Packet). f r.now.hunts) (sym reads);
         past_is = past ∙ k.keeps.past_is
             ∙ ap (λ (f : Bool → List Placed → Stream Packet). sum_by (lost_in f from_fault) r.past) (sym reads);
         count_is = count ∙ k.keeps.count_is;

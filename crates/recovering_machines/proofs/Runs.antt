@@ -1,9 +1,11 @@
 -- A run, cell by cell.
 use Rattle.std.proofs.Common.{◌≡◌, ℕ, ◌+◌, ◌≤◌, List, [], ◌∷◌, ◌++◌, refl, sym, ◌∙◌, ap, arith, subst, append_assoc}
-use Rattle.std.proofs.Common.{append-nil, drop, get_or, length, length-append, ◌<◌, ◌-◌, suc, take, zero, ◌*◌, Option, Some, Bool}
+use Rattle.std.proofs.Common.{append-nil, drop, get_or, length, length-append, ◌<◌, ◌-◌}
+use Rattle.std.proofs.Common.{suc, take, zero, ◌*◌, Option, Some, Bool}
 use Rattle.std.specs.Prelude.{map}
 use Rattle.std.proofs.lemmas.Grind.{flat_map-append}
-use Rattle.std.proofs.lemmas.List.{length-drop, length-map, length-take-le, length_push, map-append, take_all, take_more}
+use Rattle.std.proofs.lemmas.List.{length-drop, length-map, length-take-le}
+use Rattle.std.proofs.lemmas.List.{length_push, map-append, take_all, take_more}
 use Rattle.trace_values.specs.declared.cell.Cell.{Cell}
 use Rattle.trace_values.specs.declared.step.Step.{Step}
 use Rattle.trace_values.specs.Placed.{Place, Placed}
@@ -73,7 +75,8 @@ pub bytes_size : (cells : List Cell) (bytes : List ℕ) → bytes ≡ bytes_of c
 bytes_size cells bytes e = ap length e ∙ length-map cells (λ (c : Cell). c.byte)
 
 -- the last of the cells that are taken
-pub cells_last : (n : ℕ) (cells : List Cell) (d cell : Cell) → 0 < n → n ≤ length cells → cell ≡ get_or cells (n - 1) d →
+pub cells_last : (n : ℕ) (cells : List Cell) (d cell : Cell) → 0 < n → n ≤ length cells →
+    cell ≡ get_or cells (n - 1) d →
     take n cells ≡ take (n - 1) cells ++ cell ∷ []
 cells_last n cells d cell some l e =
     ap (λ (k : ℕ). take k cells) (let k : n ≡ (n - 1) + 1 = omega (arith, some) in k)
@@ -89,7 +92,8 @@ pub front_next : (done n : ℕ) (cells : List Cell) →
 front_next done n cells = ap (λ (l : List Cell). take done cells ++ take n l) (tail_of done cells)
     ∙ sym (take_parts done n cells)
 
-pub rest_size : (done : ℕ) (cells : List Cell) → length (take (length cells - done) (drop done cells)) ≡ length cells - done
+pub rest_size : (done : ℕ) (cells : List Cell) →
+    length (take (length cells - done) (drop done cells)) ≡ length cells - done
 rest_size done cells = ap length (tail_of done cells) ∙ length-drop done cells
 
 pub rest_bytes : (done : ℕ) (cells : List Cell) (bytes : List ℕ) → bytes ≡ bytes_of cells →

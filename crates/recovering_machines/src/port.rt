@@ -67,11 +67,11 @@ impl RecoveringPort {
         }
     }
 
-    /// Takes bytes from the front of a piece, the first of which is at this offset, up to the first to which the answer is
-    /// not `Quiet`, or to the piece's end: a whole frame between frames at once, and else byte by byte. Where the last of
-    /// them ends a frame, `out` has the frame's cells afterwards, and else nothing; the first frame after a lock has no ID
-    /// before it. After `Fault` it hunts already, and has taken again what it takes again. `Locked` has the bytes that the
-    /// present hunt skipped, and those that it counts from the fault before it.
+    /// Takes bytes from the front of a piece, the first of which is at this offset, up to the first to which the
+    /// answer is not `Quiet`, or to the piece's end: a whole frame between frames at once, and else byte by byte.
+    /// Where the last of them ends a frame, `out` has the frame's cells afterwards, and else nothing; the first frame
+    /// after a lock has no ID before it. After `Fault` it hunts already, and has taken again what it takes again.
+    /// `Locked` has the bytes that the present hunt skipped, and those that it counts from the fault before it.
     ///
     /// The piece has a byte. The offset, the piece's length, and the bytes that it holds and skipped are each at most
     /// `PART_ROOM`.

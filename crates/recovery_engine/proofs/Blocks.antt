@@ -112,7 +112,8 @@ module _ (old : RecoveringPort) (at : ℕ) (bytes : List ℕ) (step : PortStep) 
     -- it is at the last offset
     offset : (n : ℕ) → length bytes ≡ n → place ≡ at + (n - 1)
     offset n e =
-        let a : length bytes ≡ length t.front + 1 = ap length t.parts ∙ length_push t.front t.last in omega (arith, a, e)
+        let a : length bytes ≡ length t.front + 1 = ap length t.parts
+        ∙ length_push t.front t.last in omega (arith, a, e)
 
     pub block_parts : (n : ℕ) → length bytes ≡ n →
         parts_in (of_stretches (with_bytes r at bytes))

@@ -42,8 +42,8 @@ impl RecoveringShow {
         self.lister.is_faulty()
     }
 
-    /// Takes bytes from the front of a piece, as the engine does, and puts the lines of the events that they end. Answers
-    /// how many. The piece has a byte.
+    /// Takes bytes from the front of a piece, as the engine does, and puts the lines of the events that they end.
+    /// Answers how many. The piece has a byte.
     fn take(&mut self, piece: &[u8], outlet: &mut Outlet) -> usize
         requires some { 0 < length piece.now }
         requires room { length outlet.old + ACTION_ROOM ≤ OUTLET_ROOM }

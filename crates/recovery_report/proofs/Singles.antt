@@ -83,7 +83,8 @@ module _ (plan : Plan) (kind : SourceKind) (x : ℕ) (k : kind_of plan x ≡ Som
       report_from plan parts (singles cells) ≡ told (Some x) (lifted said)
   singles_added [] parts said a e =
       let none : [] ≡ said =
-      append_cancel_left (said_in parts) [] said (append-nil (said_in parts) ∙ sym (ap said_in (append-nil parts)) ∙ e) in
+      append_cancel_left (said_in parts) [] said (append-nil (said_in parts)
+      ∙ sym (ap said_in (append-nil parts)) ∙ e) in
       ap (λ l. told (Some x) (lifted l)) none
   singles_added (c ∷ cells) parts said a e =
       let next = parts ++ Run (c ∷ []) ∷ [] in

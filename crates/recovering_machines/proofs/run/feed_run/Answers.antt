@@ -37,11 +37,13 @@ loop-done-preserved g c =
       few = (let a = one.count.1 in let l = i.few in omega (arith, size, a, l));
       takes =
           subst (λ (l : List Cell). TakesRun g.V.Hearer.gets g.V.Hearer.room c.args.id l c.args.source.now
-          c.take_front-done.new.source (c.args.out.now, c.args.to.now) (c.take_front-done.new.out, c.take_front-done.new.to))
+          c.take_front-done.new.source (c.args.out.now, c.args.to.now)
+          (c.take_front-done.new.out, c.take_front-done.new.to))
           (front_next done c.take_front-done.result cells)
           (takes_then g.V.Hearer.gets g.V.Hearer.room g.met.V.Hearer.gets_none g.met.V.Hearer.gets_more c.args.id
           c.args.source.now c.loop-done.source c.take_front-done.new.source (c.args.out.now, c.args.to.now)
-          (c.loop-done.out, c.loop-done.to) (c.take_front-done.new.out, c.take_front-done.new.to) (take done cells) _ i.takes
+          (c.loop-done.out, c.loop-done.to) (c.take_front-done.new.out, c.take_front-done.new.to)
+          (take done cells) _ i.takes
           one.takes);
     }
 

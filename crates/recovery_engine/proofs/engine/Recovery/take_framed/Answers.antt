@@ -45,7 +45,8 @@ returns-clause-list g c = λ u k.
       counted =
           c.add_step.ensures.counted (recovered plan.frames u) (recovered plan.frames (u ++ w))
           (subst (λ l. CountsGrow (recovered plan.frames u) (recovered plan.frames (u ++ w)) port.result.step l)
-          (sym c.as_slice-cells.ensures.value) (framed_counts self.port c.args.at bytes port.result.step port.new.out.items
+          (sym c.as_slice-cells.ensures.value)
+          (framed_counts self.port c.args.at bytes port.result.step port.new.out.items
           port.ensures.fed port.ensures.cells plan.frames u c.requires.framed k.port)) k.counted;
       count = (let e = k.count in let l = length-append u w in let p = length-placed_from c.args.at bytes in
           let n = length-take-le port.result.bytes c.args.piece.now port.ensures.bytes.1 in omega (arith, e, l, p, n));

@@ -25,7 +25,8 @@ loop-done-preserved c =
       count = (let a = i.count in let b = one.count in omega (arith, a, b));
       list = λ seen s.
           subst (Stands c.take-done.new.self)
-          (append_assoc seen (take done piece) _ ∙ ap (λ (l : List ℕ). seen ++ l) (front_next done c.take-done.result piece))
+          (append_assoc seen (take done piece) _
+          ∙ ap (λ (l : List ℕ). seen ++ l) (front_next done c.take-done.result piece))
           (one.list (seen ++ take done piece) (i.list seen s));
     }
 

@@ -11,4 +11,5 @@ returns-clause-fed c =
     let piece = c.args.piece.now in
     has_fed c.args.self.now (record { engine = c.take.new.self; lister = c.take.new.out }) c.next-at.result
     (take n piece) e.given.0 c.args.outlet.now c.take.new.to c.next-at.ensures.count e.plan
-    (e.count ∙ ap (λ k. taken_by c.args.self.now + k) (sym (length-take-le n piece e.bytes.1))) e.list e.given.2 e.given.1
+    (e.count ∙ ap (λ k. taken_by c.args.self.now + k) (sym
+    (length-take-le n piece e.bytes.1))) e.list e.given.2 e.given.1
