@@ -1,5 +1,5 @@
 -- One piece of the capture.
-use Rattle.std.proofs.Common.{◌≡◌, ℕ, ◌+◌, ◌-◌, ◌<◌, List, [], ◌∷◌, ◌++◌, sym, ◌∙◌, ap, subst, append-nil, arith, Bool, true, false, cond}
+use Rattle.std.proofs.Common.{◌≡◌, refl, ℕ, ◌+◌, ◌-◌, ◌<◌, List, [], ◌∷◌, ◌++◌, sym, ◌∙◌, ap, subst, append-nil, arith, Bool, true, false, cond}
 use Rattle.std.specs.Prelude.{Option, None, Result, Ok, Err, OnOk}
 use Rattle.stp_grammar.specs.declared.packet.Order.{Order}
 use Rattle.stp_grammar.specs.declared.packet.Order.TheVariants.{Msn}
@@ -75,3 +75,8 @@ one_fewer false items n h lt = omega arith
 pub last_piece : (w : Bool) (items n : ℕ) → 0 < cond w 0 (items - n + 1) → n ≡ items → 0 + 1 ≡ cond w 0 (items - n + 1)
 last_piece true items n h e = absurd (omega arith)
 last_piece false items n h e = omega arith
+
+-- more pieces come where the capture isn't whole
+pub unmade : (w : Bool) (k : ℕ) → 0 < cond w 0 k → w ≡ false
+unmade true k h = absurd (omega arith)
+unmade false k h = refl

@@ -25,6 +25,7 @@ pub struct ExerciseSource {
     made: u64,
     empty_reads: u64,
     ghost within: { given ≤ length (makers.made_by maker) },
+    ghost room: { length (makers.made_by maker) ≤ KEPT_ROOM },
     ghost few: { made + KEPT_ROOM * makers.pieces_left maker ≤ MOST_BYTES },
     ghost total: { made + length (makers.to_come maker) ≡ length (exercise_capture (makers.items_of maker)) },
 }

@@ -362,13 +362,7 @@ impl Rebuild {
         ensures fault { result ≡ is_some self.new.fault }
     {
         self.count += 1;
-        match put_line(
-            &mut self.writer,
-            &self.plan,
-            self.version,
-            text,
-            found,
-        ) {
+        match put_line(&mut self.writer, &self.plan, self.version, text, found) {
             Ok(()) => {
                 self.writer.give(outlet);
                 self.line.clear();

@@ -45,6 +45,7 @@ fn trigger_source(formatter: &Formatter) -> Result<SourceId, LineFault>
 impl LineWriter {
     ghost use Rattle.trace_values.specs.declared.limits.TheConstants.{COUNT_ROOM};
     ghost use Rattle.port_formatter.specs.Port.{Port};
+    ghost use Rattle.port_formatter.specs.declared.straight.TheConstants.{KEPT_ROOM};
     ghost use Rattle.port_formatter.specs.Segments.{no_segments};
     ghost use Rattle.script_text.specs.declared.version_two.Line2.{Line2};
     ghost use Rattle.script_text.specs.declared.version_two.Line2.TheVariants.{One, Flush, Trigger};
@@ -206,6 +207,7 @@ impl LineWriter {
     pub fn kept(&self) -> (&[u8], &[u8])
         ensures parts { result.0.now ++ result.1.now ≡ kept_by self.now }
         ensures one { turns_of self.now ≡ None → result.1.now ≡ [] }
+        ensures few { turns_of self.now ≡ None → length result.0.now ≤ KEPT_ROOM }
     {
         self.formatter.kept()
     }
