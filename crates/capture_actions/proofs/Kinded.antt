@@ -19,7 +19,6 @@ use Rattle.source_events.specs.Tails.{items_in}
 use Rattle.source_events.specs.declared.event.What.TheVariants.{Locked, Packet as Said, Raw, Trigger}
 use Rattle.source_events.specs.declared.packet.Packet.TheVariants.{Stp}
 use Rattle.trace_text.specs.HardwareText.{hardware_text, change_text}
-use Rattle.trace_text.specs.HexDigits.{hex_digits}
 use Rattle.trace_text.specs.ItemText.{item_text, lateness_text, flag_text, bits_text, owner_text}
 use Rattle.trace_text.specs.LineText.{what_text}
 use Rattle.trace_text.specs.StpText.{stp_text, place_text, datum_text, mark_text, stamp_text}

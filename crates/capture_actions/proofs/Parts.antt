@@ -5,15 +5,15 @@ use Rattle.std.specs.Option.{is_some}
 use Rattle.std.specs.List.{range_with_len}
 use Rattle.std.proofs.lemmas.Bool.{cases_eq}
 use Rattle.std.proofs.lemmas.Grind.{flat_map-append}
-use Rattle.std.proofs.lemmas.List.{get_or-set_same, get_or-set_other, get_or-replicate}
+use Rattle.std.proofs.lemmas.List.{get_or-set_same, get_or-set_other}
 use Rattle.source_counts.specs.declared.counts.Counts.{Counts}
 use Rattle.source_events.specs.Plan.{kind_of}
 use Rattle.source_events.specs.declared.tails.Tails.{Tails}
-use Rattle.capture_actions.specs.Names.{Event, Packet, Plan, Placed, Place, Reason, Stop, ID_COUNT, Pours, Debt, Paid, owing, with_debt}
+use Rattle.capture_actions.specs.Names.{Event, Packet, Plan, Placed, Stop, ID_COUNT, Pours, Debt, Paid, owing, with_debt}
 use Rattle.capture_actions.specs.Names.{stop_of, fault_of, source_counts_of, port_counts_of, tails_of, port_counts_text, tails_text}
 use Rattle.capture_actions.specs.KindCheck.{parts_by, last_by}
 use Rattle.capture_actions.specs.KindCounts.{HasCounted, number_at}
-use Rattle.capture_actions.specs.Kinds.{kind_text, words_text, kinds_text, source_kinds_text, kinds_in, lines_by, all_lines, kinds_by, none}
+use Rattle.capture_actions.specs.Kinds.{kind_text, words_text, source_kinds_text, kinds_in, lines_by, all_lines, kinds_by, none}
 use Rattle.capture_actions.specs.Summary.{source_text}
 use Rattle.capture_actions.specs.Words.{number_of}
 use Rattle.capture_actions.specs.declared.item_word.ItemWord.{ItemWord}

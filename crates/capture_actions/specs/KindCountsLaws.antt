@@ -1,5 +1,5 @@
 -- What is counted adds up: proofs that the `impl` of its receiver cites.
-use Rattle.std.proofs.Common.{ℕ, List, [], ◌++◌, sym, subst, append_assoc, append-nil}
+use Rattle.std.proofs.Common.{List, [], ◌++◌, sym, subst, append_assoc, append-nil}
 use Rattle.capture_actions.specs.Names.{Event, Packet}
 use Rattle.capture_actions.specs.declared.kind_counts.KindCounts.{KindCounts}
 use Rattle.capture_actions.specs.KindCounts.{HasCounted, gets}

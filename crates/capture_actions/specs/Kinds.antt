@@ -1,5 +1,5 @@
 -- What `check` writes that counts kinds: after the line of a mapped source one for each word with which its items begin.
-use Rattle.std.specs.Prelude.{ℕ, ◌+◌, ◌-◌, List, [], ◌++◌, flat_map, codes, decimal, min, Option, Some, None, ◌==◌}
+use Rattle.std.specs.Prelude.{ℕ, List, [], ◌++◌, flat_map, codes, decimal, min, Option, Some, None, ◌==◌}
 use Rattle.std.specs.Prelude.{if◌then◌else◌, false}
 use Rattle.std.specs.Option.{is_some}
 use Rattle.std.specs.List.{range_with_len}
@@ -8,7 +8,6 @@ use Rattle.capture_actions.specs.Names.{source_counts_of, tails_of, fault_of, po
 use Rattle.capture_actions.specs.Names.{Event, Packet, report_of}
 use Rattle.source_events.specs.Plan.{kind_of}
 use Rattle.source_counts.specs.declared.counts.Counts.{Counts}
-use Rattle.source_events.specs.declared.tails.PortCounts.{PortCounts}
 use Rattle.capture_actions.specs.Faulty.{is_stp, IsFaulty}
 use Rattle.capture_actions.specs.KindCounts.{kind_count, MOST}
 use Rattle.capture_actions.specs.Summary.{source_text}
