@@ -9,7 +9,8 @@ use Rattle.capture_words.specs.declared.option.CommandOption.{CommandOption}
 use Rattle.capture_words.specs.declared.option.CommandOption.TheVariants.{Frames, Packets, Itm, Stp, StpOrder, Id}
 use Rattle.capture_words.specs.declared.option.CommandOption.TheVariants.{Only, Window, Sync, Half, Limit, Items}
 use Rattle.capture_words.specs.declared.option.CommandOption.TheVariants.{Lose, Recover, Size, Pointer, Full}
-use Rattle.capture_words.specs.declared.option.CommandOption.TheVariants.{Order, Hold, Depth, Port, Hz, Kinds}
+use Rattle.capture_words.specs.declared.option.CommandOption.TheVariants.{Order, Hold, Depth, Port, Hz}
+use Rattle.capture_words.specs.declared.option.CommandOption.TheVariants.{Kinds as KindsOption}
 
 -- the name of an option, after the two dashes
 abbrev pub option_name : CommandOption → Text
@@ -34,7 +35,7 @@ option_name Order = codes "order"
 option_name Hold = codes "hold"
 option_name Depth = codes "depth"
 option_name Hz = codes "hz"
-option_name Kinds = codes "kinds"
+option_name KindsOption = codes "kinds"
 option_name Port = codes "port"
 
 -- an option has one value, and is given once at most
