@@ -18,7 +18,7 @@ use Rattle.script_rebuild.specs.Writer.{CanBePut2 as IsPuttable}
 use Rattle.deformatter.specs.PortReading.{port_reading}
 use Rattle.script_laws.specs.Puts.{CanAllBePut}
 use Rattle.script_laws.specs.ReadBack.{aligned, ReadsAsGiven}
-use Rattle.script_laws.proofs.Given.{reads_as_given}
+use Rattle.script_laws.proofs.Ported.{port_reads}
 use Rattle.script_laws.proofs.Said.{put_more}
 use Rattle.resync_laws.proofs.ReportRest.{report_follows}
 use Rattle.script_text.specs.declared.version_two.Line2.{Line2}
@@ -81,7 +81,7 @@ all_put (suc n) h =
 
 pub reads_whole : (items : ℕ) → items ≤ MOST_ITEMS → ReadsAsGiven exercise_plan (exercise_lines items) (placed (exercise_capture items))
 unfolding exercise_capture
-reads_whole items h = reads_as_given 64 0 exercise_plan (exercise_lines items) refl (all_put items h)
+reads_whole items h = port_reads 64 0 exercise_plan (exercise_lines items) refl (all_put items h) None tt refl
 
 -- what is left of it, by the law on rests
 pub rest_sound : (items lost : ℕ) → items ≤ MOST_ITEMS → fault_of exercise_plan (placed (exercise_rest items lost)) ≡ None

@@ -48,7 +48,7 @@ module _ (limit : ℕ) (old new : Streams) (script : List ℕ) (loses : Loses ol
       (rebuilds (straight plan sync half) sound.0 sound.1 tt run)
   by_task (Funnel plan sync half turns) p sound run is =
       subst (λ (q : RebuildPlan). Rebuilds q script old.held new.held) is
-      (rebuilds (funnelled plan sync half turns) sound.0 sound.1 (sound.4, sound.3) run)
+      (rebuilds (funnelled plan sync half turns) sound.0 sound.1 (sound.2.2, sound.2.1) run)
   by_task (Show plan only window recover) p sound run is = absurd is
   by_task (Split frames id) p sound run is = absurd is
   by_task (Text plan port) p sound run is = absurd is

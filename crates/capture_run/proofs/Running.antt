@@ -14,7 +14,8 @@ use Rattle.capture_actions.specs.declared.list_plan.ListPlan.{ListPlan}
 use Rattle.capture_words.specs.declared.recover.Recover.{Recover}
 use Rattle.source_events.specs.declared.plan.Plan.{Plan}
 use Rattle.capture_exercise.specs.Summary.{exercise_summary}
-use Rattle.capture_run.specs.Actions.{HasDone, checking, limit_of, meaning_of, showing, summing}
+use Rattle.value_dump.specs.declared.vcd_plan.VcdPlan.{VcdPlan}
+use Rattle.capture_run.specs.Actions.{HasDone, checking, dumping, limit_of, meaning_of, showing, summing}
 use Rattle.capture_run.specs.Notes.{Notes, text_of, status_of, is_image, over_text, over_status}
 use Rattle.capture_run.specs.Run.{HasMade, HasRun, TaskMeaning, TaskNotes, task_of, Streams, Stops, EndsLate}
 use Rattle.capture_run.specs.Run.{WritesBy, Loses}
@@ -134,6 +135,10 @@ pub same_check : (r s : Recover) (kinds : Bool) (p q : Plan) (limit : ℕ) (old 
 same_check r s kinds p q limit old new status is same run =
     subst (λ (v : Plan). HasRun (checking r kinds v) limit old new status) same
     (subst (λ (v : Recover). HasRun (checking v kinds p) limit old new status) (sym is) run)
+
+pub same_dump : (p q : VcdPlan) (limit : ℕ) (old new : Streams) (status : Status) → p ≡ q →
+    HasRun (dumping p) limit old new status → HasRun (dumping q) limit old new status
+same_dump p q limit old new status same run = subst (λ (v : VcdPlan). HasRun (dumping v) limit old new status) same run
 
 pub same_task : (t u : Task) (limit : ℕ) (old new : Streams) (status : Status) → t ≡ u →
     HasDone u limit old new status → HasDone t limit old new status

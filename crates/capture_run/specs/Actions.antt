@@ -136,6 +136,10 @@ abbrev pub checking : Recover → Bool → Plan → TaskMeaning
 checking Off kinds plan = summing kinds plan
 checking On kinds plan = task_of (recovering_summary.check_meaning plan) (recovered_notes plan)
 
+-- a value dump
+abbrev pub dumping : VcdPlan → TaskMeaning
+dumping p = task_of (vcd_meaning p) (captured (report_note p.plan))
+
 -- the writing of a script's capture
 abbrev pub rebuilding : RebuildPlan → TaskMeaning
 rebuilding p = task_of (rebuild_meaning p) (rebuild_notes p)
@@ -149,9 +153,7 @@ meaning_of (Split frames id) =
 meaning_of (Text plan port) =
     let p : PortTextPlan = record { plan = plan; port = port } in
     task_of (port_text_meaning p) (captured (report_note plan))
-meaning_of (Vcd plan hz) =
-    let p : VcdPlan = record { plan = plan; hz = hz } in
-    task_of (vcd_meaning p) (captured (report_note plan))
+meaning_of (Vcd plan hz) = dumping (record { plan = plan; hz = hz })
 meaning_of (Check plan recover kinds) = checking recover kinds plan
 meaning_of (Rebuild plan sync half) = rebuilding (straight plan sync half)
 meaning_of (Funnel plan sync half turns) = rebuilding (funnelled plan sync half turns)

@@ -47,8 +47,8 @@ returns-in-FaultFound-clause-made g c = λ left.
     c.in-FaultFound.ensures.served in
     made_stopped c.args.items c.args.lose GREATEST_CAPTURE left old new _ c.serve-outcome.new.buffers.recent served (same_notes _ _)
 
-pub returns-in-OverLimit-clause-made : goal.returns-in-OverLimit-clause-made
-returns-in-OverLimit-clause-made g c = λ left.
+pub returns-clause-made : goal.returns-clause-made
+returns-clause-made g c = λ left.
     let before = c.args.notes.now in
     let held = g.O.Sink.held c.args.output.now in
     let now = g.O.Sink.held c.serve-outcome.new.output in

@@ -1,9 +1,10 @@
 use Rattle.std.proofs.Common.{sym, subst}
-use Rattle.capture_words.specs.declared.job.Task.TheVariants.{Check, Show}
+use Rattle.capture_words.specs.declared.job.Task.TheVariants.{Check, Show, Vcd}
 use Rattle.capture_run.specs.Actions.{HasDone}
 use Rattle.capture_run.specs.Run.{Streams, streams}
 use Rattle.capture_run.specs.declared.status.Status.{Status}
-use Rattle.capture_run.proofs.Running.{done_unopened, same_task}
+use Rattle.capture_run.proofs.Running.{done_unopened, same_dump, same_task}
+use Rattle.value_dump.specs.declared.vcd_plan.VcdPlan.{VcdPlan}
 use Rattle.capture_run.proofs.jobs.run_job.Goals as goal
 
 pub returns-in-Show-clause-ran : goal.returns-in-Show-clause-ran
@@ -15,6 +16,13 @@ pub returns-in-Check-clause-ran : goal.returns-in-Check-clause-ran
 returns-in-Check-clause-ran g c =
     let t = c.in-Check in
     same_task c.args.job.task (Check t.plan t.recover t.kinds) c.args.job.limit _ _ _ t.is c.run_check.ensures.ran
+
+pub returns-in-Vcd-clause-ran : goal.returns-in-Vcd-clause-ran
+returns-in-Vcd-clause-ran g c =
+    let t = c.in-Vcd in
+    let plan : VcdPlan = record { plan = t.plan; hz = t.hz } in
+    same_task c.args.job.task (Vcd t.plan t.hz) c.args.job.limit _ _ _ t.is
+    (same_dump _ plan c.args.job.limit _ _ _ c.new-action-in-Vcd.ensures.plan c.run_action-in-Vcd.ensures.ran)
 
 pub returns-in_default-clause-ran : goal.returns-in_default-clause-ran
 returns-in_default-clause-ran g c =
