@@ -51,7 +51,7 @@ given_put plan old new given before after g = record {
   clocks = g.clocks;
   seen = g.seen;
   text = λ e es h f.
-      g.text es h f ∙ ap (λ (p : Plan). before ++ lines_after (plan_by p old.filter) es given) e;
+      g.text es es h f ∙ ap (λ (p : Plan). before ++ lines_after (plan_by p old.filter) es given) e;
 }
 
 module _ (old new : Show) (at : ℕ) (bytes : List ℕ) (given : List (Event Packet)) (flow : Flow)

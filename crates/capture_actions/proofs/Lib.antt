@@ -12,7 +12,6 @@ pub mod Wanted
 pub mod Choosing
 pub mod Few
 pub mod Values
-pub mod Owing
 pub mod Tallies
 pub mod Parts
 pub mod Kinded

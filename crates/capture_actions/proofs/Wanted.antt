@@ -6,7 +6,7 @@ use Rattle.capture_actions.specs.Names.{Bounds, Choice, Event, Packet, Plan, con
 use Rattle.capture_actions.specs.Faulty.{is_stp}
 use Rattle.capture_actions.specs.Filter.{ChoiceWindow, SawAll, bounds_in, plan_by, wants}
 use Rattle.capture_actions.specs.Lister.{ListerGets}
-use Rattle.capture_actions.specs.Listing.{is_listed, itm_packets, lines_after, meets, remark_of}
+use Rattle.capture_actions.specs.Listing.{is_listed, itm_packets, lines_from, meets, remark_of}
 use Rattle.capture_actions.specs.SourceClocks.{AllStand}
 use Rattle.capture_actions.specs.declared.filter.Filter.{Filter}
 use Rattle.capture_actions.specs.declared.list_plan.ListPlan.{ListPlan}
@@ -36,14 +36,14 @@ module _ (old new : Lister) (a b : List ℕ) (e : Event Packet) (wanted : Bool)
   abbrev p : ListPlan
   p = plan_by old.plan old.filter
 
-  line_put : (before : List (Event Packet)) → b ≡ a ++ cond wanted (line_of old before e) [] →
-      b ≡ a ++ lines_after p before (e ∷ [])
-  line_put before h =
+  line_put : (clocked seen : List (Event Packet)) → b ≡ a ++ cond wanted (line_of old clocked e) [] →
+      b ≡ a ++ lines_from p clocked seen (e ∷ [])
+  line_put clocked seen h =
       h
-      ∙ ap (λ (w : Bool). a ++ cond w (line_of old before e) [])
-      (sym (listed_where p.only p.window before e wanted (ap bounds_in none) item is))
+      ∙ ap (λ (w : Bool). a ++ cond w (line_of old clocked e) [])
+      (sym (listed_where p.only p.window seen e wanted (ap bounds_in none) item is))
       ∙ ap (λ (l : List ℕ). a ++ l)
-      (sym (append-nil (cond (is_listed p.only p.window before e) (line_of old before e) [])))
+      (sym (append-nil (cond (is_listed p.only p.window seen e) (line_of old clocked e) [])))
 
   pub put_from_parts : new.plan ≡ old.plan → new.filter ≡ old.filter →
       ((before : List (Event Packet)) → AllStand old.clocks before → AllStand new.clocks (before ++ e ∷ [])) →
@@ -56,5 +56,5 @@ module _ (old new : Lister) (a b : List ℕ) (e : Event Packet) (wanted : Bool)
     seen = λ before f.
         subst (λ (w : Option ChoiceWindow). SawAll w (before ++ e ∷ []))
         (sym (ap (λ (f : Filter). f.window) filter ∙ none)) tt;
-    text = λ before h f. line_put before (text before h);
+    text = λ clocked seen h f. line_put clocked seen (text clocked h);
   }

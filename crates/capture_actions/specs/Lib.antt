@@ -2,7 +2,6 @@ pub mod Names
 pub mod Words
 pub mod KindCounts
 pub mod KindCountsLaws
-pub mod Owed
 pub mod Ring
 pub mod Unring
 pub mod RingLaws

@@ -5,19 +5,19 @@ use Rattle.source_events.specs.declared.plan.SourceKind.TheVariants.{Itm}
 use Rattle.trace_text.specs.declared.lines.TheConstants.{EVENT_ROOM}
 use Rattle.capture_actions.specs.Faulty.{is_stp}
 use Rattle.capture_actions.specs.Filter.{plan_by, HasSeen}
-use Rattle.capture_actions.specs.Listing.{lines_after}
+use Rattle.capture_actions.specs.Listing.{lines_from}
 use Rattle.capture_actions.specs.SourceClocks.{AllStand}
 use Rattle.capture_actions.specs.declared.lister.Lister.{Lister}
 
--- It put the lines of these events, which follow all that its clocks and its filter have seen. An outlet's value is the
--- list of its bytes.
+-- It put the lines of these events, which follow those that its clocks have taken and those that its filter has seen.
+-- (The clocks may have begun anew since.) An outlet's value is the list of its bytes.
 pub record ListerGets (old : Lister × List ℕ) (es : List (Event Packet)) (new : Lister × List ℕ) : Type 0 where
   pub kept : new.0.plan ≡ old.0.plan
   pub asked : plan_by new.0.plan new.0.filter ≡ plan_by old.0.plan old.0.filter
   pub clocks : (before : List (Event Packet)) → AllStand old.0.clocks before → AllStand new.0.clocks (before ++ es)
   pub seen : (before : List (Event Packet)) → HasSeen old.0.filter before → HasSeen new.0.filter (before ++ es)
-  pub text : (before : List (Event Packet)) → AllStand old.0.clocks before → HasSeen old.0.filter before →
-      new.1 ≡ old.1 ++ lines_after (plan_by old.0.plan old.0.filter) before es
+  pub text : (clocked seen : List (Event Packet)) → AllStand old.0.clocks clocked → HasSeen old.0.filter seen →
+      new.1 ≡ old.1 ++ lines_from (plan_by old.0.plan old.0.filter) clocked seen es
 
 abbrev pub gets : Lister × List ℕ → List (Event Packet) → Lister × List ℕ → Type 0
 gets old es new = ListerGets old es new

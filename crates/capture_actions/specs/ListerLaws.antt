@@ -4,9 +4,9 @@ use Rattle.capture_actions.specs.Names.{Event, Packet}
 use Rattle.capture_actions.specs.declared.list_plan.ListPlan.{ListPlan}
 use Rattle.capture_actions.specs.declared.lister.Lister.{Lister}
 use Rattle.capture_actions.specs.Filter.{plan_by, HasSeen}
-use Rattle.capture_actions.specs.LineLaws.{lines_append}
+use Rattle.capture_actions.specs.LineLaws.{lines_more}
 use Rattle.capture_actions.specs.Lister.{gets}
-use Rattle.capture_actions.specs.Listing.{lines_after}
+use Rattle.capture_actions.specs.Listing.{lines_from}
 use Rattle.capture_actions.specs.SourceClocks.{AllStand}
 
 pub gets_none : (s : Lister × List ℕ) → gets s [] s
@@ -15,7 +15,7 @@ gets_none s = record {
   asked = refl;
   clocks = λ before h. subst (λ (es : List (Event Packet)). AllStand s.0.clocks es) (sym (append-nil before)) h;
   seen = λ before f. subst (λ (es : List (Event Packet)). HasSeen s.0.filter es) (sym (append-nil before)) f;
-  text = λ before h f. sym (append-nil s.1);
+  text = λ clocked seen h f. sym (append-nil s.1);
 }
 
 pub gets_more : (a b c : Lister × List ℕ) (es fs : List (Event Packet)) → gets a es b → gets b fs c →
@@ -31,10 +31,10 @@ gets_more a b c es fs g h =
       seen = λ before f.
           subst (λ (l : List (Event Packet)). HasSeen c.0.filter l) (append_assoc before es fs)
           (h.seen (before ++ es) (g.seen before f));
-      text = λ before k f.
-          h.text (before ++ es) (g.clocks before k) (g.seen before f)
-          ∙ ap (λ (q : ListPlan). b.1 ++ lines_after q (before ++ es) fs) g.asked
-          ∙ ap (λ (l : List ℕ). l ++ lines_after p (before ++ es) fs) (g.text before k f)
-          ∙ append_assoc a.1 (lines_after p before es) (lines_after p (before ++ es) fs)
-          ∙ ap (λ (l : List ℕ). a.1 ++ l) (sym (lines_append p before es fs));
+      text = λ clocked seen k f.
+          h.text (clocked ++ es) (seen ++ es) (g.clocks clocked k) (g.seen seen f)
+          ∙ ap (λ (q : ListPlan). b.1 ++ lines_from q (clocked ++ es) (seen ++ es) fs) g.asked
+          ∙ ap (λ (l : List ℕ). l ++ lines_from p (clocked ++ es) (seen ++ es) fs) (g.text clocked seen k f)
+          ∙ append_assoc a.1 (lines_from p clocked seen es) (lines_from p (clocked ++ es) (seen ++ es) fs)
+          ∙ ap (λ (l : List ℕ). a.1 ++ l) (sym (lines_more p clocked seen es fs));
     }

@@ -54,10 +54,15 @@ line_by p clocked seen e =
 abbrev pub line_after : ListPlan → List (Event Packet) → Event Packet → List ℕ
 line_after p before e = line_by p before before e
 
--- the lines of events after those before them, in order
+-- the lines of events, in order, where the clocks have taken some events and the window has seen some
+abbrev pub lines_from : ListPlan → List (Event Packet) → List (Event Packet) → List (Event Packet) → List ℕ
+lines_from p clocked seen [] = []
+lines_from p clocked seen (e ∷ es) =
+    line_by p clocked seen e ++ lines_from p (clocked ++ e ∷ []) (seen ++ e ∷ []) es
+
+-- the lines of events after those before them
 abbrev pub lines_after : ListPlan → List (Event Packet) → List (Event Packet) → List ℕ
-lines_after p before [] = []
-lines_after p before (e ∷ es) = line_after p before e ++ lines_after p (before ++ e ∷ []) es
+lines_after p before es = lines_from p before before es
 
 -- the lines of the events of the report
 abbrev pub listed : ListPlan → List ℕ → List ℕ

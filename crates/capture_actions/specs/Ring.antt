@@ -5,7 +5,7 @@ use Rattle.buffer_ring.specs.Buffer.{memory_of, size_of, pushed_by}
 use Rattle.buffer_ring.specs.Image.{image}
 use Rattle.buffer_ring.specs.declared.buffer.TraceBuffer.{TraceBuffer}
 use Rattle.capture_actions.specs.Names.{Meaning, Debt, owing}
-use Rattle.capture_actions.specs.Owed.{last_of}
+use Rattle.trace_stream.specs.Owed.{last_of}
 use Rattle.capture_actions.specs.declared.ring.Ring.{Ring}
 
 -- no bytes have a fault, nothing is written for any, and at their end comes the image of a buffer of this size

@@ -4,7 +4,7 @@ use Rattle.buffer_ring.specs.Buffer as buffers
 use Rattle.buffer_ring.specs.Buffer.{memory_of, size_of, pushed_by}
 use Rattle.buffer_ring.specs.Image.{ordered}
 use Rattle.capture_actions.specs.Names.{Meaning, Debt, owing}
-use Rattle.capture_actions.specs.Owed.{last_of}
+use Rattle.trace_stream.specs.Owed.{last_of}
 use Rattle.capture_actions.specs.declared.unring.Unring.{Unring}
 use Rattle.capture_actions.specs.declared.unring_plan.UnringPlan.{UnringPlan}
 

@@ -222,7 +222,7 @@ impl Action for Check {
     }
 
     /// A whole frame is counted at once where no source is mapped.
-    fn feed(&mut self, piece: &[u8], _outlet: &mut Outlet) -> Progress {
+    fn feed(&mut self, piece: &[u8], _outlet: &mut Outlet, _notes: &mut Outlet) -> Progress {
         let at = self.engine.next();
         let bytes = count_frames(&mut self.engine, at, piece);
         if bytes > 0 {

@@ -244,7 +244,7 @@ impl Action for KindCheck {
     }
 
     /// Takes a whole frame, or bytes up to a synchronisation or a fault, or packets, and counts them.
-    fn feed(&mut self, piece: &[u8], _outlet: &mut Outlet) -> Progress {
+    fn feed(&mut self, piece: &[u8], _outlet: &mut Outlet, _notes: &mut Outlet) -> Progress {
         let at = self.engine.next();
         let fed = self.engine.take(at, piece, &mut self.kinds, &mut ());
         let is_faulty = keep_stop(&mut self.stop, fed.flow);

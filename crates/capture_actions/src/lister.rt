@@ -12,7 +12,7 @@ ghost use Rattle.stp_grammar.specs.Said.{said_item, IsProperSaid};
 ghost use Rattle.trace_text.specs.LineText.{itm_event, raw_event, stp_event};
 ghost use Rattle.capture_actions.specs.Faulty.{is_stp};
 ghost use Rattle.capture_actions.specs.Filter.{plan_by, HasSeen};
-ghost use Rattle.capture_actions.specs.Listing.{is_listed, itm_packets, line_by, remark_of};
+ghost use Rattle.capture_actions.specs.Listing.{is_listed, itm_packets, remark_of};
 ghost use Rattle.capture_actions.specs.SourceClocks.{AllStand, without};
 
 use crate::filter::Filter;
@@ -120,16 +120,12 @@ impl Lister {
         }
     }
 
-    /// Takes the next event, and puts its line if it is listed. The clocks may have begun anew since the window's first
-    /// event.
+    /// Takes the next event, and puts its line if it is listed.
     #[inline(always)]
-    pub fn put_next(&mut self, outlet: &mut Outlet, event: &Event<Packet>)
+    fn put_next(&mut self, outlet: &mut Outlet, event: &Event<Packet>)
         requires fits { EventFits PacketFits event.now }
         requires room { length outlet.old + TEXT_ROOM ≤ OUTLET_ROOM }
         ensures gets { gets (self.old, outlet.old) (event.now ∷ []) (self.new, outlet.new) }
-        ensures line { (clocked seen : List (Event Packet)) → AllStand self.old.clocks clocked →
-            HasSeen self.old.filter seen → let p = plan_by self.old.plan self.old.filter in
-            outlet.new ≡ outlet.old ++ line_by p clocked seen event.now }
         ensures bound { length outlet.new ≤ length outlet.old + EVENT_ROOM }
     {
         let remark = self.clocks.remark(event);

@@ -79,7 +79,7 @@ impl Action for PortText {
     }
 
     /// Takes a whole frame, or bytes up to a synchronisation or a fault, or packets, and puts the values among them.
-    fn feed(&mut self, piece: &[u8], outlet: &mut Outlet) -> Progress {
+    fn feed(&mut self, piece: &[u8], outlet: &mut Outlet, _notes: &mut Outlet) -> Progress {
         let at = self.engine.next();
         let fed = self.engine.take(at, piece, &mut self.values, outlet);
         let is_faulty = keep_stop(&mut self.stop, fed.flow);

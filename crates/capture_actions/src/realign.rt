@@ -119,7 +119,7 @@ impl Action for Realign {
     }
 
     /// Takes as many bytes as there is room for.
-    fn feed(&mut self, piece: &[u8], outlet: &mut Outlet) -> Progress {
+    fn feed(&mut self, piece: &[u8], outlet: &mut Outlet, _notes: &mut Outlet) -> Progress {
         let bytes = piece.len().min(ACTION_ROOM);
         push_all(&mut self.slip, &piece[..bytes], outlet);
         Progress {

@@ -3,10 +3,9 @@
 ghost use Rattle.std.specs.Prelude.{◌≡◌, ◌≤◌, ◌^◌, ℕ, List, [], IfOk};
 ghost use Rattle.buffer_ring.specs.Buffer.{size_of};
 
-use crate::owed::put_owed;
 use buffer_ring::TraceBuffer;
 use std::alloc::{AllocError, Global};
-use trace_stream::{Action, Outlet, Progress};
+use trace_stream::{Action, Outlet, Progress, put_owed};
 
 /// Takes all bytes into a trace buffer, and at their end owes the buffer's image.
 #[derive(Drop)]
@@ -69,7 +68,7 @@ impl Action for Ring {
     }
 
     /// Takes the whole piece.
-    fn feed(&mut self, piece: &[u8], _outlet: &mut Outlet) -> Progress {
+    fn feed(&mut self, piece: &[u8], _outlet: &mut Outlet, _notes: &mut Outlet) -> Progress {
         self.buffer.push_all(piece);
         Progress {
             bytes: piece.len(),

@@ -105,7 +105,7 @@ impl Action for Show {
     }
 
     /// Takes bytes while the outlet has room for the lines of a frame, and puts the lines of their events.
-    fn feed(&mut self, piece: &[u8], outlet: &mut Outlet) -> Progress {
+    fn feed(&mut self, piece: &[u8], outlet: &mut Outlet, _notes: &mut Outlet) -> Progress {
         let mut done = 0;
         for turn in 0..TURNS {
             let taken = self.take(&piece[done..], outlet);

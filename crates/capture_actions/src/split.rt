@@ -161,7 +161,7 @@ impl Action for Split {
 
     /// Takes a whole frame at once where one is there, and else the piece's bytes up to the end of a frame or a
     /// synchronisation.
-    fn feed(&mut self, piece: &[u8], outlet: &mut Outlet) -> Progress {
+    fn feed(&mut self, piece: &[u8], outlet: &mut Outlet, _notes: &mut Outlet) -> Progress {
         if self.port.is_between() {
             if let Some(frame) = plain_frame(piece) {
                 return self.feed_frame(frame, 0, outlet);

@@ -3,11 +3,10 @@
 ghost use Rattle.std.specs.Prelude.{◌≡◌, ◌==◌, ◌≤◌, ◌<◌, ◌^◌, ℕ, List, [], length, false, IfOk};
 ghost use Rattle.buffer_ring.specs.Buffer.{size_of};
 
-use crate::owed::put_owed;
 use crate::unring_plan::UnringPlan;
 use buffer_ring::{TraceBuffer, ordered};
 use std::alloc::{AllocError, Global};
-use trace_stream::{Action, Outlet, Progress};
+use trace_stream::{Action, Outlet, Progress, put_owed};
 
 /// Takes all bytes into a trace buffer. Where they are as many as its size they are an image, and at their end it owes
 /// them in order: from the pointer on and then up to it where the image is full, and else up to the pointer. Other
@@ -108,7 +107,7 @@ impl Action for Unring {
     }
 
     /// Takes the whole piece.
-    fn feed(&mut self, piece: &[u8], _outlet: &mut Outlet) -> Progress {
+    fn feed(&mut self, piece: &[u8], _outlet: &mut Outlet, _notes: &mut Outlet) -> Progress {
         self.buffer.push_all(piece);
         Progress {
             bytes: piece.len(),

@@ -65,8 +65,8 @@ impl Action for Exercise {
         false
     }
 
-    fn feed(&mut self, piece: &[u8], outlet: &mut Outlet) -> Progress {
-        self.check.feed(piece, outlet)
+    fn feed(&mut self, piece: &[u8], outlet: &mut Outlet, notes: &mut Outlet) -> Progress {
+        self.check.feed(piece, outlet, notes)
     }
 
     fn finish(&mut self, outlet: &mut Outlet) {

@@ -8,7 +8,7 @@ use Rattle.capture_words.specs.declared.job.Task.{Task}
 use Rattle.capture_words.specs.declared.job.Task.TheVariants as tasks
 use Rattle.capture_words.specs.declared.recover.Recover.TheVariants.{Off, On}
 use Rattle.capture_run.specs.Actions.{HasDone, IsSoundInput, limit_of, meaning_of}
-use Rattle.capture_run.specs.Notes.{Notes}
+use Rattle.trace_stream.specs.Told.{Notes}
 use Rattle.capture_run.specs.Recovers.{GoesOn, IsRecovered}
 use Rattle.capture_run.specs.Run.{HasMade, HasRun, Loses, Streams, TaskMeaning, IsDoneOrNoMemory, Stops, EndsLate}
 use Rattle.capture_run.specs.declared.status.Status.{Status}
@@ -95,7 +95,8 @@ recovering (tasks.Show plan only window Off) on = absurd on
 recovering (tasks.Check plan On kinds) on = (refl, refl, λ limit. refl)
 recovering (tasks.Check plan Off kinds) on = absurd on
 recovering (tasks.Split frames id) on = absurd on
-recovering (tasks.Text plan port) on = absurd on
+recovering (tasks.Text plan port On) on = (refl, refl, λ limit. refl)
+recovering (tasks.Text plan port Off) on = absurd on
 recovering (tasks.Vcd plan hz) on = absurd on
 recovering (tasks.Rebuild plan sync half) on = absurd on
 recovering (tasks.Funnel plan sync half turns) on = absurd on

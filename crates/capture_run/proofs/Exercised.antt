@@ -1,7 +1,6 @@
 -- How an exercise ends, by the outcome of the serving of its rest.
 use Rattle.std.proofs.Common.{◌≡◌, true, false, ℕ, ◌≤◌, ◌-◌, List, [], ◌∷◌, ◌++◌, ◌⊎◌, Some, None, refl, sym, ap, ◌∙◌, subst, length, take, drop, arith, append-nil, append_assoc, length-append, inl, inr}
 use Rattle.std.proofs.lemmas.List.{take-append-drop, take_all}
-use Rattle.std.proofs.KnownBytes.{Appends-nil}
 use Rattle.std.proofs.lemmas.List.{length-drop}
 use Rattle.std.specs.declared.option.Option.{Option}
 use Rattle.std.specs.Prelude.{codes}
@@ -16,7 +15,7 @@ use Rattle.capture_exercise.specs.Exercise.{exercise_plan, exercise_capture, exe
 use Rattle.capture_exercise.specs.Summary.{IsFaulty, exercise_meaning, exercise_ending, exercise_summary}
 use Rattle.capture_exercise.specs.SummaryLaws.{exercise_lawful}
 use Rattle.capture_exercise.specs.declared.plans.ExercisePlan.{ExercisePlan}
-use Rattle.capture_run.specs.Notes.{Notes}
+use Rattle.trace_stream.specs.Told.{Notes}
 use Rattle.capture_run.specs.Run.{HasMade, Streams}
 use Rattle.capture_run.specs.declared.status.Status.TheVariants.{Done, WriteFault}
 
@@ -31,15 +30,15 @@ plan_is items capture plan e f =
     ∙ ap (λ (q : Plan). let p : ExercisePlan = record { items = items; capture = length (exercise_capture items); plan = q } in p) f
 
 -- the serving of what was made, by what was asked for
-pub served_for : (outcome : Outcome) (p : ExercisePlan) (rest : List ℕ) (items lose limit capture : ℕ) (plan : Plan) (held held' rest_left : Option (List ℕ)) (recent : List ℕ)
+pub served_for : (there : List ℕ → Type 0) (outcome : Outcome) (p : ExercisePlan) (rest : List ℕ) (items lose limit capture : ℕ) (plan : Plan) (held held' rest_left : Option (List ℕ)) (recent : List ℕ)
     → p ≡ record { items = items; capture = capture; plan = plan } → capture ≡ length (exercise_capture items) → plan ≡ exercise_plan
     → rest ≡ exercise_rest items lose
-    → HasServed (exercise_meaning p) limit (record { left = Some rest; held = held }) (record { left = rest_left; held = held' }) recent outcome
-    → HasServed (exercise_meaning (plan_for items)) limit (record { left = Some (exercise_rest items lose); held = held }) (record { left = rest_left; held = held' }) recent outcome
-served_for outcome p rest items lose limit capture plan held held' rest_left recent is e f r s =
+    → HasServed there (exercise_meaning p) limit (record { left = Some rest; held = held }) (record { left = rest_left; held = held' }) recent outcome
+    → HasServed there (exercise_meaning (plan_for items)) limit (record { left = Some (exercise_rest items lose); held = held }) (record { left = rest_left; held = held' }) recent outcome
+served_for there outcome p rest items lose limit capture plan held held' rest_left recent is e f r s =
     let new : Ends = record { left = rest_left; held = held' } in
-    subst (λ (l : List ℕ). let old : Ends = record { left = Some l; held = held } in HasServed (exercise_meaning (plan_for items)) limit old new recent outcome) r
-    (subst (λ (q : ExercisePlan). let old : Ends = record { left = Some rest; held = held } in HasServed (exercise_meaning q) limit old new recent outcome) (is ∙ plan_is items capture plan e f) s)
+    subst (λ (l : List ℕ). let old : Ends = record { left = Some l; held = held } in HasServed there (exercise_meaning (plan_for items)) limit old new recent outcome) r
+    (subst (λ (q : ExercisePlan). let old : Ends = record { left = Some rest; held = held } in HasServed there (exercise_meaning q) limit old new recent outcome) (is ∙ plan_is items capture plan e f) s)
 
 -- what is lost of the rest is a front of it
 pub front_of : (rest : List ℕ) (left : Option (List ℕ)) (bytes : List ℕ) → Consumes (Some rest) left bytes →
@@ -57,7 +56,7 @@ keeps : (left : Option (List ℕ)) → Keeps left left
 keeps None = tt
 keeps (Some xs) = refl
 
-module _ (items lose limit : ℕ) (left : Option (List ℕ)) (old new : Streams) (rest_left : Option (List ℕ)) (recent : List ℕ) where
+module _ (there : List ℕ → Type 0) (items lose limit : ℕ) (left : Option (List ℕ)) (old new : Streams) (rest_left : Option (List ℕ)) (recent : List ℕ) where
   abbrev before : Ends
   before = record { left = Some (exercise_rest items lose); held = old.held }
 
@@ -70,7 +69,7 @@ module _ (items lose limit : ℕ) (left : Option (List ℕ)) (old new : Streams)
   abbrev over : Streams
   over = record { left = left; held = new.held; noted = new.noted; note_faults = new.note_faults }
 
-  pub made_done : HasServed (exercise_meaning (plan_for items)) limit before after recent AtEnd →
+  pub made_done : HasServed there (exercise_meaning (plan_for items)) limit before after recent AtEnd →
       Notes old.noted new.noted old.note_faults new.note_faults [] → HasMade (exercise_summary items lose) started over Done
   made_done s n =
       let all = all_of (exercise_rest items lose) rest_left s.bytes s.lost (s.ended refl) in
@@ -93,7 +92,7 @@ module _ (items lose limit : ℕ) (left : Option (List ℕ)) (old new : Streams)
       front.1 ∙ ap (λ (l : List ℕ). l ++ front.0) (sym (take-append-drop limit bytes)) ∙ append_assoc (take limit bytes) (drop limit bytes) front.0 in
       sym (ap (exercise_ending (plan_for items)) parts ∙ (exercise_lawful (plan_for items)).ending_stays (take limit bytes) (drop limit bytes ++ front.0) broken)
 
-  pub made_stopped : HasServed (exercise_meaning (plan_for items)) limit before after recent FaultFound →
+  pub made_stopped : HasServed there (exercise_meaning (plan_for items)) limit before after recent FaultFound →
       Notes old.noted new.noted old.note_faults new.note_faults [] → HasMade (exercise_summary items lose) started over Done
   made_stopped s n =
       record {
@@ -105,7 +104,7 @@ module _ (items lose limit : ℕ) (left : Option (List ℕ)) (old new : Streams)
         makes = (s.outcome.1 ∙ ended_at s.bytes s.lost s.outcome.0.broken, refl);
       }
 
-  pub never_over : HasServed (exercise_meaning (plan_for items)) limit before after recent OverLimit →
+  pub never_over : HasServed there (exercise_meaning (plan_for items)) limit before after recent OverLimit →
       length (exercise_rest items lose) ≤ limit → ⊥
   never_over s few =
       let front = front_of (exercise_rest items lose) rest_left s.bytes s.lost in
@@ -128,7 +127,7 @@ module _ (items lose limit : ℕ) (left : Option (List ℕ)) (old new : Streams)
   nothing [] front = (exercise_summary items lose, refl)
   nothing (x ∷ out) front = absurd (let no = front.1 in cc)
 
-  pub made_failed : HasServed (exercise_meaning (plan_for items)) limit before after recent WriteFailed →
+  pub made_failed : HasServed there (exercise_meaning (plan_for items)) limit before after recent WriteFailed →
       Notes old.noted new.noted old.note_faults new.note_faults (codes "write fault\n") → HasMade (exercise_summary items lose) started over WriteFault
   made_failed s n = record { out = s.out; note = codes "write fault\n"; lost = keeps left; gained = s.gained; noted = n; makes = (by s.outcome, refl) }
     where
@@ -140,10 +139,6 @@ module _ (items lose limit : ℕ) (left : Option (List ℕ)) (old new : Streams)
           GrowsOnly s.out (exercise_summary items lose)
       by (inl front) = nothing s.out front
       by (inr both) = a_front s.out s.bytes s.lost (all_read both.0) both.1
-
--- where nothing was noted
-pub same_notes : (noted : Option (List ℕ)) (faults : ℕ) → Notes noted noted faults faults []
-same_notes noted faults = λ no_fault. Appends-nil noted
 
 -- the rest is no longer than the whole
 pub few_left : (items lose capture : ℕ) → capture ≡ length (exercise_capture items) → capture ≤ MOST_BYTES →

@@ -1,28 +1,34 @@
 -- How a run ends, by the outcome of the serving of its input.
 use Rattle.std.proofs.Common.{◌≡◌, ℕ, ◌≤◌, List, [], Some, None, refl, sym, ap, ◌∙◌, subst, inl, inr, length, take}
-use Rattle.std.proofs.Common.{arith, Bool, true}
+use Rattle.std.proofs.Common.{◌++◌, arith, Bool, true, false}
 use Rattle.std.proofs.lemmas.List.{append_cancel_right, take_all}
 use Rattle.std.specs.declared.option.Option.{Option}
 use Rattle.std.specs.Prelude.{codes}
 use Rattle.std.specs.Io.KnownBytes.{Consumes, Keeps}
 use Rattle.std.proofs.KnownBytes.{Consumes-nil, Appends-nil}
-use Rattle.trace_stream.specs.Served.{Meaning, Ends, HasServed, HasStopped, HasEnded, ServedBy}
+use Rattle.trace_stream.specs.Served.{Meaning, Ends, HasServed, ServedBy}
 use Rattle.trace_stream.specs.declared.outcome.Outcome.{Outcome}
 use Rattle.trace_stream.specs.declared.outcome.Outcome.TheVariants.{AtEnd, FaultFound, OverLimit}
+use Rattle.trace_stream.specs.declared.outcome.Outcome.TheVariants.{ReadFailed, WriteFailed}
 use Rattle.capture_words.specs.declared.job.Task.{Task}
 use Rattle.capture_actions.specs.declared.list_plan.ListPlan.{ListPlan}
+use Rattle.capture_actions.specs.declared.port_text_plan.PortTextPlan.{PortTextPlan}
 use Rattle.capture_words.specs.declared.recover.Recover.{Recover}
 use Rattle.source_events.specs.declared.plan.Plan.{Plan}
 use Rattle.capture_exercise.specs.Summary.{exercise_summary}
 use Rattle.value_dump.specs.declared.vcd_plan.VcdPlan.{VcdPlan}
 use Rattle.capture_run.specs.Actions.{HasDone, checking, dumping, limit_of, meaning_of, showing, summing}
-use Rattle.capture_run.specs.Notes.{Notes, text_of, status_of, is_image, over_text, over_status}
+use Rattle.capture_run.specs.Actions.{texting}
+use Rattle.capture_run.specs.Notes.{text_of, status_of, is_image, over_text, over_status}
+use Rattle.trace_stream.specs.Told.{HasTold, Noted, Notes, told}
+use Rattle.trace_stream.proofs.Telling.{notes_more}
+use Rattle.trace_text.specs.NoteText.{image_line, limit_line}
 use Rattle.capture_run.specs.Run.{HasMade, HasRun, TaskMeaning, TaskNotes, task_of, Streams, Stops, EndsLate}
 use Rattle.capture_run.specs.Run.{WritesBy, Loses}
 use Rattle.capture_run.specs.declared.actions.FaultNote.{FaultNote}
 use Rattle.capture_run.specs.declared.actions.FaultNote.TheVariants.{Capture, Script, Recovery, Image}
 use Rattle.capture_run.specs.declared.status.Status.{Status}
-use Rattle.capture_run.specs.declared.status.Status.TheVariants.{NoMemory}
+use Rattle.capture_run.specs.declared.status.Status.TheVariants.{Done, NoMemory, ReadFault, WriteFault}
 use Rattle.capture_run.proofs.EachTask.{Kind, kind_of}
 
 -- the bytes that were lost are told by what was left
@@ -52,70 +58,123 @@ writes_stop (Script fault) m limit left bytes out note e x sound w = (sym e, inl
 writes_stop Recovery m limit left bytes out note e x sound w = (sym e, inl w)
 writes_stop (Image size) m limit left bytes out note e x sound w = absurd (sound (sym x) w.1.0.broken)
 
-writes_over : (fault : FaultNote) (m : TaskMeaning) (limit : ℕ) (left : Option (List ℕ)) (bytes out recent : List ℕ)
+writes_over : (fault : FaultNote) (m : TaskMeaning) (limit : ℕ) (left : Option (List ℕ)) (bytes out recent before : List ℕ)
     → is_image fault ≡ m.exact → (m.exact ≡ true → text_of fault [] ≡ m.fault_note bytes)
-    → ServedBy m.action limit left OverLimit bytes out recent
-    → WritesBy m limit left (over_status fault) bytes out (over_text fault limit)
-writes_over (Capture fault) m limit left bytes out recent x told w = (sym x, w, refl)
-writes_over (Script fault) m limit left bytes out recent x told w = (sym x, w, refl)
-writes_over Recovery m limit left bytes out recent x told w = (sym x, w, refl)
-writes_over (Image size) m limit left bytes out recent x told w = (sym x, inr (w, told (sym x)))
+    → before ≡ m.noted (take limit bytes) → ServedBy m.action limit left OverLimit bytes out recent
+    → WritesBy m limit left (over_status fault) bytes out (before ++ over_text fault limit)
+writes_over (Capture fault) m limit left bytes out recent before x says is w =
+    (sym x, w, ap (λ (l : List ℕ). l ++ limit_line limit) is)
+writes_over (Script fault) m limit left bytes out recent before x says is w =
+    (sym x, w, ap (λ (l : List ℕ). l ++ limit_line limit) is)
+writes_over Recovery m limit left bytes out recent before x says is w =
+    (sym x, w, ap (λ (l : List ℕ). l ++ limit_line limit) is)
+writes_over (Image size) m limit left bytes out recent before x says is w = (
+  sym x,
+  inr (
+    w,
+    ap (λ (l : List ℕ). l ++ image_line size) is
+        ∙ ap (λ (l : List ℕ). m.noted (take limit bytes) ++ l) (says (sym x)),
+  ),
+)
 
--- A fault is noted, by a plan that is that of the run.
-module _ {Plan : Type 0} (notes : Plan → TaskNotes) (plan now : Plan) (same : now ≡ plan) (action : Meaning) (limit : ℕ)
-    (old new : Streams) (recent : List ℕ) (fault : FaultNote) (status : Status)
-    (ends_so : status_of fault ≡ (notes now).fault_status) (exact : is_image fault ≡ (notes now).exact) where
+-- what the notes of a run show at a moment
+abbrev pub notes_of : Streams → Noted
+notes_of s = told s.noted s.note_faults
+
+-- How a run is noted once its input is served, by a plan that is that of the run: after what is noted of the bytes that
+-- were fed.
+module _ {Plan : Type 0} (notes : Plan → TaskNotes) (plan now : Plan) (same : now ≡ plan) (action : Meaning)
+    (noted : List ℕ → List ℕ) (limit : ℕ) (old new : Streams) (mid : Noted) (recent : List ℕ)
+    (stands : List ℕ → Type 0) (later : mid.faults ≤ new.note_faults) where
   abbrev m : TaskMeaning
-  m = task_of action (notes now)
+  m = task_of action noted (notes now)
 
-  abbrev Noted : List ℕ → Type 0
-  Noted note = Notes old.noted new.noted old.note_faults new.note_faults note
+  abbrev Ran : Status → Type 0
+  Ran status = HasRun (task_of action noted (notes plan)) limit old new status
 
-  ran : (outcome : Outcome) (s : HasServed action limit (ends old) (ends new) recent outcome) (by : Status)
-      (note : List ℕ) → status ≡ by → Noted note → WritesBy m limit new.left by s.bytes s.out note →
-      HasRun (task_of action (notes plan)) limit old new status
-  ran outcome s by note is noted w =
-      subst (λ p. HasRun (task_of action (notes p)) limit old new status) same
-      (subst (HasRun m limit old new) (sym is) (record {
+  abbrev Served : Outcome → Type 0
+  Served outcome =
+      HasServed (HasTold stands noted (notes_of old) mid) action limit (ends old) (ends new) recent outcome
+
+  abbrev Adds : List ℕ → Type 0
+  Adds note = Notes mid.held new.noted mid.faults new.note_faults note
+
+  ran : (outcome : Outcome) (s : Served outcome) (by : Status) (note : List ℕ) → Adds note →
+      WritesBy m limit new.left by s.bytes s.out (noted s.fed ++ note) → Ran by
+  ran outcome s by note adds w =
+      subst (λ p. HasRun (task_of action noted (notes p)) limit old new by) same (record {
         bytes = s.bytes;
         out = s.out;
-        note = note;
+        note = noted s.fed ++ note;
         lost = s.lost;
         gained = s.gained;
-        noted = noted;
+        noted = notes_more (notes_of old) mid (notes_of new) (noted s.fed) note s.holds.gained s.holds.later adds later;
         at_most = s.at_most;
         writes = w;
-      }))
+      })
+
+  -- what is noted, of the bytes that were fed or of those that they are
+  said : (f : List ℕ → List ℕ) (fed bytes note : List ℕ) → fed ≡ bytes → note ≡ f fed →
+      noted fed ++ note ≡ noted bytes ++ f bytes
+  said f fed bytes note is text =
+      ap (λ (l : List ℕ). noted fed ++ l) text ∙ ap (λ (l : List ℕ). noted l ++ f l) is
 
   -- at the end of the input
-  pub run_late : (there : List ℕ → Type 0) (k : HasEnded there action limit (ends old) (ends new) recent) →
-      status ≡ status_of fault → Noted (text_of fault recent) → (notes now).late k.served.bytes ≡ true →
-      text_of fault recent ≡ (notes now).fault_note k.served.bytes →
-      HasRun (task_of action (notes plan)) limit old new status
-  run_late there k is noted late text =
-      ran AtEnd k.served (status_of fault) (text_of fault recent) is noted
-      (writes_late fault m limit new.left k.served.bytes k.served.out (text_of fault recent) ends_so exact
-      (k.served.outcome, k.served.ended refl, late, text))
+  pub run_done : (s : Served AtEnd) (note : List ℕ) → Adds note → (notes now).late s.fed ≡ false →
+      note ≡ (notes now).done_note s.fed → Ran Done
+  run_done s note adds late text =
+      ran AtEnd s Done note adds (
+        s.outcome,
+        s.ended refl,
+        sym (ap (notes now).late s.feeds) ∙ late,
+        said (notes now).done_note s.fed s.bytes note s.feeds text,
+      )
 
-  -- where it became certain before
-  pub run_stopped : (there : List ℕ → Type 0) (k : HasStopped there action limit (ends old) (ends new) recent) →
-      status ≡ status_of fault → Noted (text_of fault recent) →
-      ((seen : List ℕ) → (notes now).exact ≡ true → action.faulty seen → ⊥) →
-      text_of fault recent ≡ (notes now).fault_note k.served.outcome.0.seen →
-      HasRun (task_of action (notes plan)) limit old new status
-  run_stopped there k is noted sound text =
-      ran FaultFound k.served (status_of fault) (text_of fault recent) is noted
-      (writes_stop fault m limit new.left k.served.bytes k.served.out (text_of fault recent) ends_so exact
-      (sound (take limit k.served.bytes)) (recent, k.served.outcome, text))
+  -- where a read failed, and where a write failed
+  pub run_read_failed : Served ReadFailed → Adds (codes "read fault\n") → Ran ReadFault
+  run_read_failed s adds =
+      let note : List ℕ = codes "read fault\n" in
+      ran ReadFailed s ReadFault note adds (s.outcome, ap (λ (l : List ℕ). noted l ++ note) s.feeds)
 
-  -- where the input has too many bytes
-  pub run_over : (s : HasServed action limit (ends old) (ends new) recent OverLimit) → status ≡ over_status fault →
-      Noted (over_text fault limit) →
-      ((bytes : List ℕ) → (notes now).exact ≡ true → text_of fault [] ≡ (notes now).fault_note bytes) →
-      HasRun (task_of action (notes plan)) limit old new status
-  run_over s is noted told =
-      ran OverLimit s (over_status fault) (over_text fault limit) is noted
-      (writes_over fault m limit new.left s.bytes s.out recent exact (told s.bytes) s.outcome)
+  pub run_write_failed : Served WriteFailed → Adds (codes "write fault\n") → Ran WriteFault
+  run_write_failed s adds =
+      ran WriteFailed s WriteFault (codes "write fault\n") adds (s.outcome, s.fed, s.feeds, refl)
+
+  -- a fault
+  module _ (fault : FaultNote) (status : Status) (ends_so : status_of fault ≡ (notes now).fault_status)
+      (exact : is_image fault ≡ (notes now).exact) where
+    abbrev text : List ℕ
+    text = text_of fault recent
+
+    -- at the end of the input
+    pub run_late : (s : Served AtEnd) → status ≡ status_of fault → Adds text → (notes now).late s.fed ≡ true →
+        text ≡ (notes now).fault_note s.fed → Ran status
+    run_late s is adds late says =
+        subst Ran (sym is) (ran AtEnd s (status_of fault) text adds
+        (writes_late fault m limit new.left s.bytes s.out (noted s.fed ++ text) ends_so exact (
+          s.outcome,
+          s.ended refl,
+          sym (ap (notes now).late s.feeds) ∙ late,
+          said (notes now).fault_note s.fed s.bytes text s.feeds says,
+        )))
+
+    -- where it became certain before
+    pub run_stopped : (s : Served FaultFound) → status ≡ status_of fault → Adds text →
+        ((seen : List ℕ) → (notes now).exact ≡ true → action.faulty seen → ⊥) →
+        text ≡ (notes now).fault_note s.fed → Ran status
+    run_stopped s is adds sound says =
+        subst Ran (sym is) (ran FaultFound s (status_of fault) text adds
+        (writes_stop fault m limit new.left s.bytes s.out (noted s.fed ++ text) ends_so exact
+        (sound (take limit s.bytes))
+        (recent, s.outcome, said (notes now).fault_note s.fed s.outcome.0.seen text s.feeds says)))
+
+    -- where the input has too many bytes
+    pub run_over : (s : Served OverLimit) → status ≡ over_status fault → Adds (over_text fault limit) →
+        ((bytes : List ℕ) → (notes now).exact ≡ true → text_of fault [] ≡ (notes now).fault_note bytes) → Ran status
+    run_over s is adds says =
+        subst Ran (sym is) (ran OverLimit s (over_status fault) (over_text fault limit) adds
+        (writes_over fault m limit new.left s.bytes s.out recent (noted s.fed) exact (says s.bytes)
+        (ap noted s.feeds) s.outcome))
 
 -- a run by equal words, plans and tasks
 pub same_show : (r s : Recover) (p q : ListPlan) (limit : ℕ) (old new : Streams) (status : Status) → r ≡ s → p ≡ q →
@@ -135,6 +194,12 @@ pub same_check : (r s : Recover) (kinds : Bool) (p q : Plan) (limit : ℕ) (old 
 same_check r s kinds p q limit old new status is same run =
     subst (λ (v : Plan). HasRun (checking r kinds v) limit old new status) same
     (subst (λ (v : Recover). HasRun (checking v kinds p) limit old new status) (sym is) run)
+
+pub same_text : (r s : Recover) (p q : PortTextPlan) (limit : ℕ) (old new : Streams) (status : Status) → r ≡ s → p ≡ q →
+    HasRun (texting s p) limit old new status → HasRun (texting r q) limit old new status
+same_text r s p q limit old new status is same run =
+    subst (λ (v : PortTextPlan). HasRun (texting r v) limit old new status) same
+    (subst (λ (v : Recover). HasRun (texting v p) limit old new status) (sym is) run)
 
 pub same_dump : (p q : VcdPlan) (limit : ℕ) (old new : Streams) (status : Status) → p ≡ q →
     HasRun (dumping p) limit old new status → HasRun (dumping q) limit old new status

@@ -26,6 +26,7 @@ use Rattle.source_merge.specs.Answering.{fault_of}
 use Rattle.port_slip.specs.Segments.{realigned}
 use Rattle.recovery_listing.specs.Listing as recovering
 use Rattle.recovery_listing.specs.Listing.{is_faulty}
+use Rattle.recovery_listing.specs.PortText as recovering_text
 use Rattle.recovery_listing.specs.Summary as recovering_summary
 use Rattle.source_events.specs.declared.plan.Plan.{Plan}
 use Rattle.script_rebuild.specs.Rebuilt.{routed_script, rebuild_meaning}
@@ -38,7 +39,7 @@ use Rattle.trace_values.specs.Placed.{placed}
 use Rattle.trace_text.specs.NoteText.{last_line, slipped_line, buffer_line, image_line}
 use Rattle.capture_run.specs.Notes.{fault_text, script_note}
 use Rattle.capture_run.specs.Rebuilds.{straight, funnelled}
-use Rattle.capture_run.specs.Run.{TaskMeaning, TaskNotes, task_of, Streams, HasRun, HasMade}
+use Rattle.capture_run.specs.Run.{TaskMeaning, TaskNotes, nothing, task_of, Streams, HasRun, HasMade}
 use Rattle.capture_run.specs.declared.status.Status.{Status}
 use Rattle.capture_run.specs.declared.status.Status.TheVariants.{CaptureFault, ScriptFault, Recovered, BadImage}
 
@@ -65,7 +66,7 @@ captured note = record {
 }
 
 -- Where reading goes on after each fault, none ends it. Whether the report of the whole input has one tells how the run
--- ends, and what is written tells the faults.
+-- ends; what is written, or was noted as the bytes came, tells the faults.
 abbrev pub recovered_notes : Plan → TaskNotes
 recovered_notes plan = record {
   late = is_faulty plan;
@@ -90,7 +91,7 @@ rebuild_notes plan = record {
 abbrev pub reads_nothing : List ℕ → TaskMeaning
 reads_nothing text =
     let action : Meaning = record { faulty = λ bytes. ⊥; text = λ bytes. []; ending = λ bytes. text; due = false } in
-    task_of action (captured (λ bytes. []))
+    task_of action nothing (captured (λ bytes. []))
 
 -- what realigning does not write is noted where it is done
 abbrev pub realign_notes : TaskNotes
@@ -125,44 +126,47 @@ unring_notes plan = record {
 -- a listing and a summary, up to a capture's first fault, the latter with or without the counts of kinds, or with all
 -- its faults
 abbrev pub showing : Recover → ListPlan → TaskMeaning
-showing Off p = task_of (show_meaning p) (captured last_note)
-showing On p = task_of (recovering.show_meaning p) (recovered_notes p.plan)
+showing Off p = task_of (show_meaning p) nothing (captured last_note)
+showing On p = task_of (recovering.show_meaning p) nothing (recovered_notes p.plan)
 
 abbrev pub summing : Bool → Plan → TaskMeaning
-summing false plan = task_of (check_meaning plan) (captured last_note)
-summing true plan = task_of (kinds_meaning plan) (captured last_note)
+summing false plan = task_of (check_meaning plan) nothing (captured last_note)
+summing true plan = task_of (kinds_meaning plan) nothing (captured last_note)
 
 abbrev pub checking : Recover → Bool → Plan → TaskMeaning
 checking Off kinds plan = summing kinds plan
-checking On kinds plan = task_of (recovering_summary.check_meaning plan) (recovered_notes plan)
+checking On kinds plan = task_of (recovering_summary.check_meaning plan) nothing (recovered_notes plan)
+
+-- the text of a stimulus port, up to a capture's first fault, or with all its faults as notes
+abbrev pub texting : Recover → PortTextPlan → TaskMeaning
+texting Off p = task_of (port_text_meaning p) nothing (captured (report_note p.plan))
+texting On p = task_of (recovering_text.port_text_meaning p) (recovering_text.noted p) (recovered_notes p.plan)
 
 -- a value dump
 abbrev pub dumping : VcdPlan → TaskMeaning
-dumping p = task_of (vcd_meaning p) (captured (report_note p.plan))
+dumping p = task_of (vcd_meaning p) nothing (captured (report_note p.plan))
 
 -- the writing of a script's capture
 abbrev pub rebuilding : RebuildPlan → TaskMeaning
-rebuilding p = task_of (rebuild_meaning p) (rebuild_notes p)
+rebuilding p = task_of (rebuild_meaning p) nothing (rebuild_notes p)
 
 -- what the task makes of the bytes of its input
 abbrev pub meaning_of : Task → TaskMeaning
 meaning_of (Show plan only window recover) = showing recover (record { plan = plan; only = only; window = window })
 meaning_of (Split frames id) =
     let plan : SplitPlan = record { frames = frames; id = id } in
-    task_of (split_meaning plan) (captured (split_note plan))
-meaning_of (Text plan port) =
-    let p : PortTextPlan = record { plan = plan; port = port } in
-    task_of (port_text_meaning p) (captured (report_note plan))
+    task_of (split_meaning plan) nothing (captured (split_note plan))
+meaning_of (Text plan port recover) = texting recover (record { plan = plan; port = port })
 meaning_of (Vcd plan hz) = dumping (record { plan = plan; hz = hz })
 meaning_of (Check plan recover kinds) = checking recover kinds plan
 meaning_of (Rebuild plan sync half) = rebuilding (straight plan sync half)
 meaning_of (Funnel plan sync half turns) = rebuilding (funnelled plan sync half turns)
 meaning_of (Exercise items lose) = reads_nothing (exercise_summary items lose)
-meaning_of Realign = task_of realign_meaning realign_notes
-meaning_of (Ring size) = task_of (ring_meaning size) (ring_notes size)
+meaning_of Realign = task_of realign_meaning nothing realign_notes
+meaning_of (Ring size) = task_of (ring_meaning size) nothing (ring_notes size)
 meaning_of (Unring size at full) =
     let image : UnringPlan = record { size = size; pointer = at; full = full } in
-    task_of (unring_meaning image) (unring_notes image)
+    task_of (unring_meaning image) nothing (unring_notes image)
 
 -- how many bytes of its input a task reads at most: as many as the words allow, or as an image is to have
 abbrev pub limit_of : Task → ℕ → ℕ

@@ -1,11 +1,9 @@
 -- The notes of a run.
 use Rattle.std.specs.Prelude.{ℕ, List, [], ◌++◌, option_map, Some, None, Bool, true, false}
 use Rattle.std.specs.declared.option.Option.{Option}
-use Rattle.std.specs.Io.KnownBytes.{Appends}
 use Rattle.script_text.specs.Faults.{number_of, name_of}
 use Rattle.script_text.specs.declared.line_fault.LineFault.{LineFault}
 use Rattle.script_rebuild.specs.Rebuilder.{told as told_of_script}
-use Rattle.trace_io.specs.Causes.{Rose}
 use Rattle.trace_values.specs.declared.fault.Reason.{Reason}
 use Rattle.trace_values.specs.Placed.{Place}
 use Rattle.source_events.specs.Report.{stop_of}
@@ -67,7 +65,3 @@ over_status (Capture fault) = Limit
 over_status (Script fault) = Limit
 over_status Recovery = Limit
 over_status (Image size) = BadImage
-
--- the notes gained this text, unless they failed
-abbrev pub Notes : Option (List ℕ) → Option (List ℕ) → ℕ → ℕ → List ℕ → Type 0
-Notes held_old held_new faults_old faults_new text = (Rose faults_old faults_new → ⊥) → Appends held_old held_new text

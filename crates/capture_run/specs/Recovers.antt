@@ -1,7 +1,7 @@
 -- How a run ends that goes on after faults, where nothing outside fails.
 use Rattle.std.specs.Prelude.{◌≡◌, ◌⊎◌}
 use Rattle.capture_words.specs.declared.job.Task.{Task}
-use Rattle.capture_words.specs.declared.job.Task.TheVariants.{Show, Check}
+use Rattle.capture_words.specs.declared.job.Task.TheVariants.{Show, Check, Text}
 use Rattle.capture_words.specs.declared.recover.Recover.TheVariants.{On}
 use Rattle.capture_run.specs.declared.status.Status.{Status}
 use Rattle.capture_run.specs.declared.status.Status.TheVariants.{Done, NoMemory, Recovered}
@@ -10,6 +10,7 @@ use Rattle.capture_run.specs.declared.status.Status.TheVariants.{Done, NoMemory,
 abbrev pub GoesOn : Task → Type 0
 GoesOn (Show plan only window On) = Unit {0}
 GoesOn (Check plan On kinds) = Unit {0}
+GoesOn (Text plan port On) = Unit {0}
 GoesOn task = ⊥
 
 -- it was done, with or without faults, or there was no memory

@@ -1,5 +1,5 @@
 -- What a run read, wrote and noted, by its status.
-use Rattle.std.specs.Prelude.{◌≡◌, ◌⊎◌, ℕ, ◌+◌, ◌≤◌, List, [], ◌++◌, length, codes, Bool, true, false, Some}
+use Rattle.std.specs.Prelude.{◌≡◌, ◌⊎◌, ℕ, ◌+◌, ◌≤◌, List, [], ◌++◌, length, take, codes, Bool, true, false, Some}
 use Rattle.std.specs.declared.option.Option.{Option}
 use Rattle.std.specs.Io.KnownBytes.{Appends, Consumes, IsAtEnd, Keeps}
 use Rattle.trace_stream.specs.Served.{Meaning, ServedBy}
@@ -7,25 +7,26 @@ use Rattle.trace_stream.specs.Written.{GrowsOnly}
 use Rattle.trace_stream.specs.declared.outcome.Outcome.TheVariants.{AtEnd, FaultFound, ReadFailed, WriteFailed}
 use Rattle.trace_stream.specs.declared.outcome.Outcome.TheVariants.{OverLimit}
 use Rattle.trace_text.specs.NoteText.{limit_line}
-use Rattle.capture_run.specs.Notes.{Notes}
+use Rattle.trace_stream.specs.Told.{Notes}
 use Rattle.capture_run.specs.declared.status.Status.{Status}
 use Rattle.capture_run.specs.declared.status.Status.TheVariants.{Done, Usage, CaptureFault, ReadFault, WriteFault}
 use Rattle.capture_run.specs.declared.status.Status.TheVariants.{NoMemory, ScriptFault, Limit, Recovered, BadImage}
 
--- What a task makes of the bytes that it reads: what its action does; which bytes have a fault where they are all of
--- the input, one that further bytes might have mended; what is noted where they are all and have none; what is noted
+-- What a task makes of the bytes that it reads: what its action does; what is noted of them as they come; which bytes
+-- have a fault where they are all of the input, one that further bytes might have mended; what is noted where they are all and have none; what is noted
 -- where a fault is certain with the last of these bytes, or where they are all of the input and have one; how the
 -- run ends then; and whether the input is to have exactly as many bytes as the limit, so that it ends so where it has
 -- more, too.
 pub record TaskMeaning : Type 1 where
   pub action : Meaning
+  pub noted : List ℕ → List ℕ
   pub late : List ℕ → Bool
   pub done_note : List ℕ → List ℕ
   pub fault_note : List ℕ → List ℕ
   pub fault_status : Status
   pub exact : Bool
 
--- what is noted of the bytes that a task read, how it ends at a fault, and whether its input is to have exactly as many
+-- what is noted of the bytes that a task read where its run ends, how it ends at a fault, and whether its input is to have exactly as many
 -- bytes as the limit
 pub record TaskNotes : Type 0 where
   pub late : List ℕ → Bool
@@ -34,10 +35,15 @@ pub record TaskNotes : Type 0 where
   pub fault_status : Status
   pub exact : Bool
 
--- a task of this action, which notes this
-abbrev pub task_of : Meaning → TaskNotes → TaskMeaning
-task_of action notes = record {
+-- nothing, whatever the bytes
+abbrev pub nothing : List ℕ → List ℕ
+nothing = λ bytes. []
+
+-- a task of this action, which notes this as the bytes come, and this at the end
+abbrev pub task_of : Meaning → (List ℕ → List ℕ) → TaskNotes → TaskMeaning
+task_of action noted notes = record {
   action = action;
+  noted = noted;
   late = notes.late;
   done_note = notes.done_note;
   fault_note = notes.fault_note;
@@ -62,24 +68,31 @@ streams left held noted note_faults =
 abbrev pub Stops : TaskMeaning → ℕ → Option (List ℕ) → List ℕ → List ℕ → List ℕ → Type 0
 Stops m limit left bytes out note =
     (recent : List ℕ) × (served : ServedBy m.action limit left FaultFound bytes out recent)
-    × (note ≡ m.fault_note served.0.seen)
+    × (note ≡ m.noted served.0.seen ++ m.fault_note served.0.seen)
 
 -- the whole input was read and has a fault that further bytes might have mended, and that is noted
 abbrev pub EndsLate : TaskMeaning → ℕ → Option (List ℕ) → List ℕ → List ℕ → List ℕ → Type 0
 EndsLate m limit left bytes out note =
     ServedBy m.action limit left AtEnd bytes out [] × IsAtEnd left × (m.late bytes ≡ true)
-    × (note ≡ m.fault_note bytes)
+    × (note ≡ m.noted bytes ++ m.fault_note bytes)
 
 -- the input has more bytes than it is to have, and that is noted
 abbrev pub EndsOver : TaskMeaning → ℕ → Option (List ℕ) → List ℕ → List ℕ → List ℕ → Type 0
 EndsOver m limit left bytes out note =
-    ServedBy m.action limit left OverLimit bytes out [] × (note ≡ m.fault_note bytes)
+    ServedBy m.action limit left OverLimit bytes out []
+    × (note ≡ m.noted (take limit bytes) ++ m.fault_note bytes)
+
+-- A write failed, and that is noted. What is noted of bytes as they come is noted of those that were fed.
+abbrev pub FailsWriting : TaskMeaning → ℕ → Option (List ℕ) → List ℕ → List ℕ → List ℕ → Type 0
+FailsWriting m limit left bytes out note =
+    ServedBy m.action limit left WriteFailed bytes out [] × (fed : List ℕ) × GrowsOnly fed (take limit bytes)
+    × (note ≡ m.noted fed ++ codes "write fault\n")
 
 -- The table of statuses: that of outcomes, and the note. The cases exclude each other.
 abbrev pub WritesBy : TaskMeaning → ℕ → Option (List ℕ) → Status → List ℕ → List ℕ → List ℕ → Type 0
 WritesBy m limit left Done bytes out note =
     ServedBy m.action limit left AtEnd bytes out [] × IsAtEnd left × (m.late bytes ≡ false)
-    × (note ≡ m.done_note bytes)
+    × (note ≡ m.noted bytes ++ m.done_note bytes)
 WritesBy m limit left CaptureFault bytes out note =
     (m.fault_status ≡ CaptureFault) × (Stops m limit left bytes out note ⊎ EndsLate m limit left bytes out note)
 WritesBy m limit left ScriptFault bytes out note =
@@ -89,11 +102,11 @@ WritesBy m limit left BadImage bytes out note =
 WritesBy m limit left Recovered bytes out note =
     (m.fault_status ≡ Recovered) × (Stops m limit left bytes out note ⊎ EndsLate m limit left bytes out note)
 WritesBy m limit left ReadFault bytes out note =
-    ServedBy m.action limit left ReadFailed bytes out [] × (note ≡ codes "read fault\n")
+    ServedBy m.action limit left ReadFailed bytes out [] × (note ≡ m.noted bytes ++ codes "read fault\n")
 WritesBy m limit left Limit bytes out note =
-    (m.exact ≡ false) × ServedBy m.action limit left OverLimit bytes out [] × (note ≡ limit_line limit)
-WritesBy m limit left WriteFault bytes out note =
-    ServedBy m.action limit left WriteFailed bytes out [] × (note ≡ codes "write fault\n")
+    (m.exact ≡ false) × ServedBy m.action limit left OverLimit bytes out []
+    × (note ≡ m.noted (take limit bytes) ++ limit_line limit)
+WritesBy m limit left WriteFault bytes out note = FailsWriting m limit left bytes out note
 WritesBy m limit left NoMemory bytes out note = (bytes ≡ []) × (out ≡ []) × (note ≡ codes "no memory\n")
 WritesBy m limit left Usage bytes out note = ⊥
 

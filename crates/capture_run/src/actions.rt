@@ -10,7 +10,7 @@ ghost use Rattle.capture_run.specs.Run.{TaskNotes};
 use crate::status::Status;
 use capture_actions::{Check, KindCheck, PortText, Realign, Ring, Show, Split, Unring};
 use port_slip::Slipped;
-use recovery_listing::{RecoveringCheck, RecoveringShow};
+use recovery_listing::{RecoveringCheck, RecoveringShow, RecoveringText};
 use script_rebuild::{Rebuild, ScriptFault};
 use source_events::Stop;
 use trace_stream::Action;
@@ -25,7 +25,7 @@ pub enum FaultNote {
     Capture(Option<Stop>),
     /// The line of a script's fault.
     Script(Option<ScriptFault>),
-    /// Nothing: what is written tells the faults of the capture.
+    /// Nothing: what is written, or was noted before, tells the faults of the capture.
     Recovery,
     /// That the input isn't an image of this many bytes.
     Image(u64),
@@ -194,6 +194,16 @@ impl CommandAction for KindCheck {
 }
 
 impl CommandAction for RecoveringShow {
+    ghost use Rattle.capture_run.specs.Actions.{recovered_notes};
+
+    ghost notes = { λ p. recovered_notes p.plan };
+
+    fn ending(&self) -> Ending {
+        Ending::of_recovery(self.is_faulty())
+    }
+}
+
+impl CommandAction for RecoveringText {
     ghost use Rattle.capture_run.specs.Actions.{recovered_notes};
 
     ghost notes = { λ p. recovered_notes p.plan };

@@ -52,7 +52,14 @@ pub fn run_exercise<O: Sink, N: Sink>(
         plan: exercise_plan(),
     });
     let mut rest = ExerciseSource::new(items, lose);
-    let outcome = serve(buffers, &mut action, GREATEST_CAPTURE, &mut rest, output);
+    let outcome = serve(
+        buffers,
+        &mut action,
+        GREATEST_CAPTURE,
+        &mut rest,
+        output,
+        notes,
+    );
     match outcome {
         Outcome::WriteFailed => {
             note(notes, b"write fault\n");

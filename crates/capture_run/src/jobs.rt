@@ -5,9 +5,9 @@ ghost use Rattle.trace_io.specs.Causes.{Rose};
 ghost use Rattle.trace_stream.specs.Fresh.{IsFresh};
 ghost use Rattle.trace_stream.specs.declared.limits.TheConstants.{GREATEST_CAPTURE};
 ghost use Rattle.capture_words.specs.Jobs.{IsSoundTask};
-ghost use Rattle.capture_run.specs.Actions.{HasDone, checking, showing, summing};
+ghost use Rattle.capture_run.specs.Actions.{HasDone, checking, showing, summing, texting};
 ghost use Rattle.source_events.specs.Plan.{is_sound};
-ghost use Rattle.capture_run.specs.Notes.{Notes};
+ghost use Rattle.trace_stream.specs.Told.{Notes};
 ghost use Rattle.capture_run.specs.Run.{HasRun, task_of, streams};
 
 use crate::actions::CommandAction;
@@ -19,7 +19,7 @@ use capture_actions::{
     Unring,
 };
 use capture_words::{Job, Recover, Task};
-use recovery_listing::{RecoveringCheck, RecoveringShow};
+use recovery_listing::{RecoveringCheck, RecoveringShow, RecoveringText};
 use script_rebuild::{Rebuild, RebuildPlan};
 use source_events::Plan;
 use std::alloc::{AllocError, Global};
@@ -37,17 +37,18 @@ fn run_action<A: CommandAction, I: Source, O: Sink, N: Sink>(
     output: &mut O,
     notes: &mut N,
 ) -> Status
-    requires fresh { IsFresh (A.live action.old) (A.stands action.old) (A.taken action.old) (A.debt action.old) buffers.old }
+    requires fresh { IsFresh (A.live action.old) (A.stands action.old) (A.taken action.old) (A.debt action.old)
+        (A.noted (A.plan action.old) []) buffers.old }
     requires small { limit ≤ GREATEST_CAPTURE }
     ensures ran { let p = A.plan action.old in
         let before = streams (I.left input.old) (O.held output.old) (N.held notes.old) (N.faults notes.old) in
         let after = streams (I.left input.new) (O.held output.new) (N.held notes.new) (N.faults notes.new) in
-        HasRun (task_of (A.meaning p) (A.notes p)) limit before after result }
+        HasRun (task_of (A.meaning p) (A.noted p) (A.notes p)) limit before after result }
     ensures one_empty_read { I.empty_reads input.new ≤ I.empty_reads input.old + 1 }
     ensures read_cause { result ≡ Status.ReadFault → Rose (I.faults input.old) (I.faults input.new) }
     ensures write_cause { result ≡ Status.WriteFault → Rose (O.faults output.old) (O.faults output.new) }
 {
-    let outcome = serve(buffers, action, limit, input, output);
+    let outcome = serve(buffers, action, limit, input, output, notes);
     match outcome {
         Outcome::AtEnd => {
             let ending = action.ending();
@@ -90,12 +91,13 @@ fn run_opened<A: CommandAction + Drop, I: Source, O: Sink, N: Sink>(
     output: &mut O,
     notes: &mut N,
 ) -> Status
-    requires fresh { IfOk opened (λ a. IsFresh (A.live a) (A.stands a) (A.taken a) (A.debt a) buffers.old) }
+    requires fresh { IfOk opened (λ a. IsFresh (A.live a) (A.stands a) (A.taken a) (A.debt a)
+        (A.noted (A.plan a) []) buffers.old) }
     requires small { limit ≤ GREATEST_CAPTURE }
     ensures ran { (p : A.Plan) → IfOk opened (λ a. A.plan a ≡ p) →
         let before = streams (I.left input.old) (O.held output.old) (N.held notes.old) (N.faults notes.old) in
         let after = streams (I.left input.new) (O.held output.new) (N.held notes.new) (N.faults notes.new) in
-        HasRun (task_of (A.meaning p) (A.notes p)) limit before after result }
+        HasRun (task_of (A.meaning p) (A.noted p) (A.notes p)) limit before after result }
     ensures one_empty_read { I.empty_reads input.new ≤ I.empty_reads input.old + 1 }
     ensures read_cause { result ≡ Status.ReadFault → Rose (I.faults input.old) (I.faults input.new) }
     ensures write_cause { result ≡ Status.WriteFault → Rose (O.faults output.old) (O.faults output.new) }
@@ -134,6 +136,40 @@ fn run_show<I: Source, O: Sink, N: Sink>(
         Recover::On => {
             let mut action = RecoveringShow::new(plan);
             run_action(buffers, &mut action, limit, input, output, notes)
+        }
+    }
+}
+
+/// Writes what software wrote to a stimulus port, up to the first fault of a capture, or to its end with the faults as
+/// notes.
+fn run_text<I: Source, O: Sink, N: Sink>(
+    alloc: Global,
+    buffers: &mut Buffers,
+    plan: PortTextPlan,
+    recover: Recover,
+    limit: u64,
+    input: &mut I,
+    output: &mut O,
+    notes: &mut N,
+) -> Status
+    requires empty { (buffers.old.pending ≡ []) × (buffers.old.recent ≡ []) }
+    requires sound { is_sound plan.plan ≡ true }
+    requires small { limit ≤ GREATEST_CAPTURE }
+    ensures ran { let before = streams (I.left input.old) (O.held output.old) (N.held notes.old) (N.faults notes.old) in
+        let after = streams (I.left input.new) (O.held output.new) (N.held notes.new) (N.faults notes.new) in
+        HasRun (texting recover plan) limit before after result }
+    ensures one_empty_read { I.empty_reads input.new ≤ I.empty_reads input.old + 1 }
+    ensures read_cause { result ≡ Status.ReadFault → Rose (I.faults input.old) (I.faults input.new) }
+    ensures write_cause { result ≡ Status.WriteFault → Rose (O.faults output.old) (O.faults output.new) }
+{
+    match recover {
+        Recover::Off => {
+            let mut action = PortText::new(plan);
+            run_action(buffers, &mut action, limit, input, output, notes)
+        }
+        Recover::On => {
+            let opened = RecoveringText::open(alloc, plan);
+            run_opened(buffers, opened, limit, input, output, notes)
         }
     }
 }
@@ -244,9 +280,22 @@ pub fn run_job<I: Source, O: Sink, N: Sink>(
             let mut action = Split::new(SplitPlan { frames, id });
             run_action(&mut buffers, &mut action, limit, input, output, notes)
         }
-        Task::Text { plan, port } => {
-            let mut action = PortText::new(PortTextPlan { plan, port });
-            run_action(&mut buffers, &mut action, limit, input, output, notes)
+        Task::Text {
+            plan,
+            port,
+            recover,
+        } => {
+            let text = PortTextPlan { plan, port };
+            run_text(
+                alloc,
+                &mut buffers,
+                text,
+                recover,
+                limit,
+                input,
+                output,
+                notes,
+            )
         }
         Task::Vcd { plan, hz } => {
             let mut action = Vcd::new(VcdPlan { plan, hz });

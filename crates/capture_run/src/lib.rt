@@ -14,7 +14,7 @@ ghost use Rattle.script_rebuild.specs.declared.plan.RebuildPlan.{RebuildPlan};
 ghost use Rattle.source_events.specs.declared.plan.Plan.{Plan};
 ghost use Rattle.capture_run.specs.Actions.{HasDone, IsSoundInput, limit_of};
 ghost use Rattle.capture_run.specs.Fronts.{ListsRest, IsSoundWhole, FollowsWhole};
-ghost use Rattle.capture_run.specs.Notes.{Notes};
+ghost use Rattle.trace_stream.specs.Told.{Notes};
 ghost use Rattle.capture_run.specs.Rebuilds.{Rebuilds, Writes};
 ghost use Rattle.capture_run.specs.Recovers.{GoesOn, IsRecovered};
 ghost use Rattle.capture_run.specs.Run.{streams, Untouched, Loses, IsDoneOrNoMemory};

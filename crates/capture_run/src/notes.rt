@@ -4,7 +4,8 @@ ghost use Rattle.std.specs.Prelude.{◌≡◌, ◌≤◌, ◌++◌, option_map};
 ghost use Rattle.source_events.specs.Report.{stop_of};
 ghost use Rattle.trace_text.specs.NoteText.{last_line};
 ghost use Rattle.script_rebuild.specs.Rebuilder.{told as told_of_script};
-ghost use Rattle.capture_run.specs.Notes.{Notes, fault_text, script_note, text_of, done_text, status_of};
+ghost use Rattle.capture_run.specs.Notes.{fault_text, script_note, text_of, done_text, status_of};
+ghost use Rattle.trace_stream.specs.Told.{Notes};
 ghost use Rattle.capture_run.specs.Notes.{over_text, over_status};
 
 use crate::actions::{DoneNote, FaultNote};
@@ -58,6 +59,7 @@ fn note_last<N: Sink>(notes: &mut N, buffers: &Buffers)
 fn note_stop<N: Sink>(notes: &mut N, stop: &Option<Stop>, buffers: &Buffers)
     ensures noted { Notes (N.held notes.old) (N.held notes.new) (N.faults notes.old) (N.faults notes.new)
         (fault_text (option_map stop_of stop.now) ++ last_line buffers.now.recent) }
+    ensures later { N.faults notes.old ≤ N.faults notes.new }
 {
     if let Some(stop) = stop {
         note_text(
@@ -75,6 +77,7 @@ fn note_stop<N: Sink>(notes: &mut N, stop: &Option<Stop>, buffers: &Buffers)
 fn note_script<N: Sink>(notes: &mut N, fault: Option<ScriptFault>)
     ensures noted { Notes (N.held notes.old) (N.held notes.new) (N.faults notes.old) (N.faults notes.new)
         (script_note (option_map told_of_script fault)) }
+    ensures later { N.faults notes.old ≤ N.faults notes.new }
 {
     if let Some(ScriptFault { line, fault }) = fault {
         let line = ScriptFaultLine {
@@ -90,6 +93,7 @@ fn note_script<N: Sink>(notes: &mut N, fault: Option<ScriptFault>)
 pub fn note_fault<N: Sink>(notes: &mut N, fault: &FaultNote, buffers: &Buffers) -> Status
     ensures noted { Notes (N.held notes.old) (N.held notes.new) (N.faults notes.old) (N.faults notes.new)
         (text_of fault.now buffers.now.recent) }
+    ensures later { N.faults notes.old ≤ N.faults notes.new }
     ensures status { result ≡ status_of fault.now }
 {
     match fault {
@@ -105,6 +109,7 @@ pub fn note_fault<N: Sink>(notes: &mut N, fault: &FaultNote, buffers: &Buffers) 
 pub fn note_over<N: Sink>(notes: &mut N, fault: FaultNote, limit: u64) -> Status
     ensures noted { Notes (N.held notes.old) (N.held notes.new) (N.faults notes.old) (N.faults notes.new)
         (over_text fault limit) }
+    ensures later { N.faults notes.old ≤ N.faults notes.new }
     ensures status { result ≡ over_status fault }
 {
     if let FaultNote::Image(size) = fault {

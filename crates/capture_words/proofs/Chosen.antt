@@ -6,7 +6,7 @@ use Rattle.std.specs.Option.{option_and_then}
 use Rattle.std.specs.Str.{bytes_eq}
 use Rattle.std.proofs.lemmas.Slice.Eq.{bytes_eq-Decides}
 use Rattle.item_tap.specs.declared.choice.Choice.{Choice}
-use Rattle.item_tap.specs.declared.choice.Choice.TheVariants.{OfKind, Source, Port, Time}
+use Rattle.item_tap.specs.declared.choice.Choice.TheVariants.{OfKind, Source, Port, Comparator, Time}
 use Rattle.item_tap.specs.declared.choice.Kind.{Kind}
 use Rattle.item_tap.specs.declared.choice.Kind.TheVariants.{Itm, Dwt, Stp, Raw, Trigger}
 use Rattle.decimal_words.specs.Numbers.{number_named, number_after, text_after}
@@ -28,16 +28,24 @@ source_named_so x low high =
     let d = decimal x in
     let number : number_named 1 126 d ≡ Some x = names_number 1 126 x d (grind arith) low high refl in
     let ports = option_map Port (number_after (codes "port=") 0 31 (codes "id=" ++ d)) in
-    ap (λ n. or_else (option_map Source n) ports) number
+    let comparators = option_map Comparator (number_after (codes "cmp=") 0 3 (codes "id=" ++ d)) in
+    ap (λ n. or_else (option_map Source n) (or_else ports comparators)) number
 
 port_named_so : (n : ℕ) → n ≤ 31 → choice_named (codes "port=" ++ decimal n) ≡ Some (Port n)
 port_named_so n high =
-    ap (λ m. option_map Port m) (names_number 0 31 n (decimal n) (grind arith) (grind arith) high refl)
+    let d = decimal n in
+    let comparators = option_map Comparator (number_after (codes "cmp=") 0 3 (codes "port=" ++ d)) in
+    ap (λ m. or_else (option_map Port m) comparators) (names_number 0 31 n d (grind arith) (grind arith) high refl)
+
+comparator_named_so : (n : ℕ) → n ≤ 3 → choice_named (codes "cmp=" ++ decimal n) ≡ Some (Comparator n)
+comparator_named_so n high =
+    ap (λ m. option_map Comparator m) (names_number 0 3 n (decimal n) (grind arith) (grind arith) high refl)
 
 named_so : (choice : Choice) → IsChoice choice → choice_named (choice_text choice) ≡ Some choice
 named_so (OfKind kind) is = kind_named_so kind
 named_so (Source x) is = source_named_so x is.0 is.1
 named_so (Port n) is = port_named_so n is
+named_so (Comparator n) is = comparator_named_so n is
 named_so Time is = refl
 
 -- from a text to its choice
@@ -96,6 +104,7 @@ choice_is : (text : List ℕ) (choice : Choice) → choice_named text ≡ Some c
     IsChoice choice × (text ≡ choice_text choice)
 choice_is text choice = go (kind_named text) refl (time_named text) refl
     (number_after (codes "id=") 1 126 text) refl (number_after (codes "port=") 0 31 text) refl
+    (number_after (codes "cmp=") 0 3 text) refl
   where
     Is : Choice → Type 0
     Is c = IsChoice c × (text ≡ choice_text c)
@@ -103,19 +112,24 @@ choice_is text choice = go (kind_named text) refl (time_named text) refl
     go : (kind : Option Kind) → kind_named text ≡ kind → (time : Option Choice) → time_named text ≡ time →
         (source : Option ℕ) → number_after (codes "id=") 1 126 text ≡ source →
         (port : Option ℕ) → number_after (codes "port=") 0 31 text ≡ port →
-        or_else (option_map OfKind kind) (or_else time (or_else (option_map Source source) (option_map Port port)))
-        ≡ Some choice → Is choice
-    go (Some kind) k time t source s port p e = subst Is (same (OfKind kind) choice e) (tt, kind_is text kind k)
-    go None k (Some c) t source s port p e =
+        (comparator : Option ℕ) → number_after (codes "cmp=") 0 3 text ≡ comparator →
+        or_else (option_map OfKind kind) (or_else time (or_else (option_map Source source)
+        (or_else (option_map Port port) (option_map Comparator comparator)))) ≡ Some choice → Is choice
+    go (Some kind) k time t source s port p comparator m e =
+        subst Is (same (OfKind kind) choice e) (tt, kind_is text kind k)
+    go None k (Some c) t source s port p comparator m e =
         let facts = time_is text c t in
         subst Is (facts.1 ∙ same c choice e) (tt, facts.0)
-    go None k None t (Some x) s port p e =
+    go None k None t (Some x) s port p comparator m e =
         let facts = number_after_is (codes "id=") text 1 126 x s in
         subst Is (same (Source x) choice e) ((facts.0, facts.1), facts.2)
-    go None k None t None s (Some n) p e =
+    go None k None t None s (Some n) p comparator m e =
         let facts = number_after_is (codes "port=") text 0 31 n p in
         subst Is (same (Port n) choice e) (facts.1, facts.2)
-    go None k None t None s None p e = absurd (grind arith)
+    go None k None t None s None p (Some n) m e =
+        let facts = number_after_is (codes "cmp=") text 0 3 n m in
+        subst Is (same (Comparator n) choice e) (facts.1, facts.2)
+    go None k None t None s None p None m e = absurd (grind arith)
 
 pub names : (choice : Choice) (text : List ℕ) →
     (choice_named text ≡ Some choice) ↔ (IsChoice choice × (text ≡ choice_text choice))

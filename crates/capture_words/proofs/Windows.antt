@@ -13,7 +13,7 @@ use Rattle.clap.proofs.CutLemmas.{Lacks, before_first-at, after_first-at}
 use Rattle.decimal_words.proofs.Numbers.{decimal_digits}
 use Rattle.item_tap.specs.declared.bounds.Bounds.{Bounds}
 use Rattle.item_tap.specs.declared.choice.Choice.{Choice}
-use Rattle.item_tap.specs.declared.choice.Choice.TheVariants.{OfKind, Source, Port, Time}
+use Rattle.item_tap.specs.declared.choice.Choice.TheVariants.{OfKind, Source, Port, Comparator, Time}
 use Rattle.item_tap.specs.declared.choice.Kind.{Kind}
 use Rattle.item_tap.specs.declared.choice.Kind.TheVariants.{Itm, Dwt, Stp, Raw, Trigger}
 use Rattle.capture_words.specs.Choices.{kind_text, choice_text, window_text, IsChoice, IsWindow}
@@ -63,6 +63,7 @@ pub choice_lacks : (choice : Choice) → IsChoice choice → Lacks 44 (choice_te
 choice_lacks (OfKind kind) is = kind_lacks kind
 choice_lacks (Source x) is = lacks_front (codes "id=") (decimal x) refl (lacks_number x (omega (arith, is.1)))
 choice_lacks (Port n) is = lacks_front (codes "port=") (decimal n) refl (lacks_number n (omega (arith, is)))
+choice_lacks (Comparator n) is = lacks_front (codes "cmp=") (decimal n) refl (lacks_number n (omega (arith, is)))
 choice_lacks Time is = lacks_front (codes "time") [] refl lacks_nothing
 
 -- from the window to its text

@@ -4,7 +4,7 @@ use Rattle.std.specs.List.{All, join_with_byte}
 use Rattle.clap.specs.Words.{Text}
 use Rattle.item_tap.specs.declared.bounds.Bounds.{Bounds}
 use Rattle.item_tap.specs.declared.choice.Choice.{Choice}
-use Rattle.item_tap.specs.declared.choice.Choice.TheVariants.{OfKind, Source, Port, Time}
+use Rattle.item_tap.specs.declared.choice.Choice.TheVariants.{OfKind, Source, Port, Comparator, Time}
 use Rattle.item_tap.specs.declared.choice.Kind.{Kind}
 use Rattle.item_tap.specs.declared.choice.Kind.TheVariants.{Itm, Dwt, Stp, Raw, Trigger}
 
@@ -19,13 +19,16 @@ abbrev pub choice_text : Choice → Text
 choice_text (OfKind kind) = kind_text kind
 choice_text (Source x) = codes "id=" ++ decimal x
 choice_text (Port n) = codes "port=" ++ decimal n
+choice_text (Comparator n) = codes "cmp=" ++ decimal n
 choice_text Time = codes "time"
 
--- a source is from 1 to 126, since the null source, 0, gives no events, and a stimulus port from 0 to 31
+-- a source is from 1 to 126, since the null source, 0, gives no events, a stimulus port from 0 to 31, and a comparator
+-- from 0 to 3
 abbrev pub IsChoice : Choice → Type 0
 IsChoice (OfKind kind) = Unit {0}
 IsChoice (Source x) = (1 ≤ x) × (x ≤ 126)
 IsChoice (Port n) = n ≤ 31
+IsChoice (Comparator n) = n ≤ 3
 IsChoice Time = Unit {0}
 
 -- the text of choices: theirs with commas, 2C, between, from one to eight

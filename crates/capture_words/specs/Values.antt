@@ -13,7 +13,7 @@ use Rattle.stp_grammar.specs.declared.packet.Order.{Order}
 use Rattle.stp_grammar.specs.declared.packet.Order.TheVariants.{Msn, Lsn}
 use Rattle.item_tap.specs.declared.bounds.Bounds.{Bounds}
 use Rattle.item_tap.specs.declared.choice.Choice.{Choice}
-use Rattle.item_tap.specs.declared.choice.Choice.TheVariants.{OfKind, Source, Port, Time}
+use Rattle.item_tap.specs.declared.choice.Choice.TheVariants.{OfKind, Source, Port, Comparator, Time}
 use Rattle.item_tap.specs.declared.choice.Kind.{Kind}
 use Rattle.item_tap.specs.declared.choice.Kind.TheVariants.{Itm as ItmKind, Dwt as DwtKind, Stp as StpKind}
 use Rattle.item_tap.specs.declared.choice.Kind.TheVariants.{Raw as RawKind, Trigger as TriggerKind}
@@ -81,13 +81,15 @@ or_else None other = other
 abbrev pub time_named : Text → Option Choice
 time_named text = if bytes_eq text (codes "time") then Some Time else None
 
--- the choice of events that a text names: a kind, the times, a source from 1 to 126, or a stimulus port from 0 to 31
+-- the choice of events that a text names: a kind, the times, a source from 1 to 126, a stimulus port from 0 to 31, or a
+-- comparator from 0 to 3
 abbrev pub choice_named : Text → Option Choice
 choice_named text =
     or_else (option_map OfKind (kind_named text))
     (or_else (time_named text)
     (or_else (option_map Source (number_after (codes "id=") 1 126 text))
-    (option_map Port (number_after (codes "port=") 0 31 text))))
+    (or_else (option_map Port (number_after (codes "port=") 0 31 text))
+    (option_map Comparator (number_after (codes "cmp=") 0 3 text)))))
 
 -- a window from one choice to another, if there are both
 abbrev pub bounds_of : Option Choice → Option Choice → Option Bounds

@@ -32,20 +32,21 @@ fn source_after(front: &str, text: &str) -> Option<SourceId>
     }
 }
 
-/// The stimulus port, 0 to 31, whose number comes after this front of a text.
-fn port_after(front: &str, text: &str) -> Option<u8>
-    ensures { result ≡ number_after front.now 0 31 text.now }
+/// The stimulus port or the comparator, from 0 to `greatest`, whose number comes after this front of a text.
+fn place_after(front: &str, greatest: u8, text: &str) -> Option<u8>
+    ensures { result ≡ number_after front.now 0 greatest text.now }
 {
     match text_after(front, text) {
-        Some(number) => match number_named(0, 31, number) {
-            Some(port) => Some(port as u8),
+        Some(number) => match number_named(0, u64::from(greatest), number) {
+            Some(place) => Some(place as u8),
             None => None,
         },
         None => None,
     }
 }
 
-/// The choice of this text: a kind of events, `time`, `id=N` with N from 1 to 126, or `port=N` with N from 0 to 31.
+/// The choice of this text: a kind of events, `time`, `id=N` with N from 1 to 126, `port=N` with N from 0 to 31, or
+/// `cmp=N` with N from 0 to 3.
 pub fn choice_named(text: &str) -> Option<Choice>
     ensures { result ≡ choice_named text.now }
 {
@@ -58,8 +59,11 @@ pub fn choice_named(text: &str) -> Option<Choice>
     if let Some(id) = source_after("id=", text) {
         return Some(Choice::Source(id));
     }
-    match port_after("port=", text) {
-        Some(port) => Some(Choice::Port(port)),
+    if let Some(port) = place_after("port=", 31, text) {
+        return Some(Choice::Port(port));
+    }
+    match place_after("cmp=", 3, text) {
+        Some(comparator) => Some(Choice::Comparator(comparator)),
         None => None,
     }
 }

@@ -100,6 +100,8 @@ pub enum Task {
         plan: Plan,
         /// The port, 0 to 31.
         port: u8,
+        /// Whether the reading goes on after a fault.
+        recover: Recover,
     },
     /// The capture of a script whose bytes pass through a funnel.
     Funnel {
@@ -265,6 +267,7 @@ fn task_with(name: ActionName, settings: Settings) -> Result<Task, UsageFault>
                 UsageFault::TextReadsOneSource,
             )?,
             port: settings.port,
+            recover: settings.recover,
         }),
         ActionName::Vcd => Ok(Task::Vcd {
             plan: plan_of_one(

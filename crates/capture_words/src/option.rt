@@ -138,8 +138,8 @@ impl CommandOption {
             CommandOption::Id => "The source whose bytes split writes: 0 to 126",
             CommandOption::Only => {
                 "Which events show lists: itm, dwt, stp, raw, trigger, time (the timestamps of ITM sources), id=N (of \
-                source N, 1 to 126) or port=N (of stimulus port N, 0 to 31), or those of one to eight of these choices \
-                with commas between, as in dwt,time"
+                source N, 1 to 126), port=N (of stimulus port N, 0 to 31) or cmp=N (of comparator N, 0 to 3), or those \
+                of one to eight of these choices with commas between, as in dwt,time"
             }
             CommandOption::Window => {
                 "From which event to which show lists: two of the choices of --only with a comma between, as in \
@@ -161,7 +161,7 @@ impl CommandOption {
                 "How many bytes exercise loses at the front: 0 (the default) to 1000000"
             }
             CommandOption::Recover => {
-                "Whether show and check go on after a fault, at the next synchronisation: off (the default) or on"
+                "Whether show, check and text go on after a fault, at the next synchronisation: off (the default) or on"
             }
             CommandOption::Size => {
                 "How many bytes the trace buffer of ring or unring has: 16 to 16777216"

@@ -8,7 +8,7 @@ ghost use Rattle.trace_values.specs.declared.reading_modes.FramesMode.TheVariant
 ghost use Rattle.trace_values.specs.declared.reading_modes.PacketsMode.TheVariants.{Hunt as PacketsHunt};
 ghost use Rattle.trace_values.specs.declared.reading_modes.PacketsMode.TheVariants.{Aligned as PacketsAligned};
 ghost use Rattle.stp_grammar.specs.declared.packet.Order.TheVariants.{Msn, Lsn};
-ghost use Rattle.item_tap.specs.declared.choice.Choice.TheVariants.{OfKind, Source, Port, Time};
+ghost use Rattle.item_tap.specs.declared.choice.Choice.TheVariants.{OfKind, Source, Port, Comparator, Time};
 ghost use Rattle.item_tap.specs.declared.choice.Kind.TheVariants.{Itm as ItmKind, Dwt as DwtKind, Stp as StpKind};
 ghost use Rattle.item_tap.specs.declared.choice.Kind.TheVariants.{Raw as RawKind, Trigger as TriggerKind};
 ghost use Rattle.capture_words.specs.Rows.{does, lists, faults, AllAnswered, Refuses, planned, turning};
@@ -54,6 +54,8 @@ pub fn asks()
         lists (codes "show --only=id=126") (Source 126 ∷ []) ∷
         lists (codes "show --only port=0") (Port 0 ∷ []) ∷
         lists (codes "show --only port=31") (Port 31 ∷ []) ∷
+        lists (codes "show --only cmp=0") (Comparator 0 ∷ []) ∷
+        lists (codes "show --only=cmp=3,time") (Comparator 3 ∷ Time ∷ []) ∷
         lists (codes "show --only dwt,time") (OfKind DwtKind ∷ Time ∷ []) ∷
         lists (codes "show --only=port=1,id=2,port=1") (Port 1 ∷ Source 2 ∷ Port 1 ∷ []) ∷
         lists (codes "show --only itm,dwt,stp,raw,trigger,time,id=126,port=31")
@@ -111,9 +113,10 @@ pub fn asks()
         does (codes "check --recover=on") (Check (planned FramesHunt PacketsHunt [] [] Msn) On false) 68719476736 ∷
         does (codes "realign --recover on") Realign 68719476736 ∷ []) }
     ensures text { AllAnswered (
-        does (codes "text --itm 1") (Text (planned FramesHunt PacketsHunt (1 ∷ []) [] Msn) 0) 68719476736 ∷
+        does (codes "text --itm 1") (Text (planned FramesHunt PacketsHunt (1 ∷ []) [] Msn) 0 Off) 68719476736 ∷
         does (codes "text --itm 111 --port 31 --frames bare --packets aligned --limit 5 --stp 2,2,111")
-        (Text (planned Bare PacketsAligned (111 ∷ []) [] Msn) 31) 5 ∷
+        (Text (planned Bare PacketsAligned (111 ∷ []) [] Msn) 31 Off) 5 ∷
+        does (codes "text --recover on --itm 1") (Text (planned FramesHunt PacketsHunt (1 ∷ []) [] Msn) 0 On) 68719476736 ∷
         does (codes "show --port 5") (Show (planned FramesHunt PacketsHunt [] [] Msn) None None Off) 68719476736 ∷ []) }
     ensures funnel { AllAnswered (
         does (codes "funnel --order 126")
@@ -223,6 +226,9 @@ pub fn misuses()
         faults (codes "show --only port=256") (BadValue Only) ∷
         faults (codes "show --only port=+1") (BadValue Only) ∷
         faults (codes "show --only port") (BadValue Only) ∷
+        faults (codes "show --only cmp=4") (BadValue Only) ∷
+        faults (codes "show --only cmp=00") (BadValue Only) ∷
+        faults (codes "show --only cmp") (BadValue Only) ∷
         faults (codes "show --window itm") (BadValue Window) ∷
         faults (codes "show --window itm,dwt,stp") (BadValue Window) ∷
         faults (codes "show --window ,itm") (BadValue Window) ∷

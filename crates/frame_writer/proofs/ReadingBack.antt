@@ -23,7 +23,7 @@ use Rattle.frame_grammar.proofs.Deciding.{port_decided}
 use Rattle.frame_writer.specs.declared.pair.Pair.{Pair}
 use Rattle.frame_writer.specs.Written.{Tagged, first, after_first, is_id, paired, Paired, Closed, Filled, filled}
 use Rattle.frame_writer.specs.Written.{spread, aux_byte, sync, is_due, known, frame_bytes, frames_by, Later}
-use Rattle.frame_writer.specs.Written.{none_later, segments_then, joined, written_segments, capture}
+use Rattle.frame_writer.specs.Written.{none_later, segments_then, joined, written_segments}
 use Rattle.deformatter.specs.PortReading.{cells_of}
 use Rattle.deformatter.proofs.Grammar.{aligned_cells}
 use Rattle.frame_writer.specs.ReadBack.{IsOfSource, seen, as_seen, source_cells, read_back, ReadsBack}
@@ -396,8 +396,3 @@ pub written_reads : (every halves : ℕ) (segments : List (List Tagged)) → All
 written_reads every halves segments a =
     written (written_segments every halves segments) (joined segments)
     (segments_law every halves segments a 0 0 [] None None (record { items = []; reads = refl; id_is = refl }) tt)
-
--- the same of one segment
-pub capture_reads : (every halves : ℕ) (t : List Tagged) → All IsOfSource t → ReadsBack (capture every halves t) t
-capture_reads every halves t a =
-    subst (λ (l : List Tagged). ReadsBack (capture every halves t) l) (append-nil t) (written_reads every halves (t ∷ []) (All-cons (λ t. All IsOfSource t) t [] a (All-nil (λ t. All IsOfSource t))))

@@ -1,4 +1,5 @@
 //! Worked rows of written captures, which the checker computes.
+#![tactic(auto, unfolding(crate::specs::Written::filled, crate::specs::Written::frame_bytes, crate::specs::Written::frames_by))]
 
 ghost use Rattle.std.specs.Prelude.{◌≡◌, ◌++◌, ◌∷◌, [], codes};
 ghost use Rattle.frame_grammar.specs.Rows.{hex};

@@ -11,7 +11,7 @@ use Rattle.source_events.specs.declared.packet.Packet.{Packet}
 use Rattle.source_events.specs.declared.packet.Packet.TheVariants.{Itm as ItmKind, Stp as StpKind}
 use Rattle.source_events.specs.Report.{is_item}
 use Rattle.item_tap.specs.declared.choice.Choice.{Choice}
-use Rattle.item_tap.specs.declared.choice.Choice.TheVariants.{OfKind, Source, Port, Time}
+use Rattle.item_tap.specs.declared.choice.Choice.TheVariants.{OfKind, Source, Port, Comparator, Time}
 use Rattle.item_tap.specs.declared.choice.Kind.{Kind}
 use Rattle.item_tap.specs.declared.choice.Kind.TheVariants.{Itm, Dwt, Stp, Raw, Trigger}
 use Rattle.item_tap.specs.Choices.{content_of, is_of_kind, holds_in, holds, holds_any}
@@ -43,6 +43,7 @@ notice_in (OfKind Raw) source (Locked skipped) h = refl
 notice_in (OfKind Trigger) source (Locked skipped) h = refl
 notice_in (Source x) source (Locked skipped) h = refl
 notice_in (Port n) source (Locked skipped) h = refl
+notice_in (Comparator n) source (Locked skipped) h = refl
 notice_in Time source (Locked skipped) h = refl
 notice_in choice source (Given packet) h = absurd (grind arith)
 notice_in choice source (Bytes bytes) h = absurd (grind arith)

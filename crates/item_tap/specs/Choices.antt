@@ -1,6 +1,10 @@
 -- Which events a choice holds for, and a list of choices.
-use Rattle.std.specs.Prelude.{ℕ, Bool, true, false, not, List, Option, Some, ◌&&◌, ◌==◌}
+use Rattle.std.specs.Prelude.{ℕ, Bool, true, false, not, List, Option, None, Some, ◌&&◌, ◌==◌}
 use Rattle.std.specs.List.{list_any}
+use Rattle.std.specs.Option.{option_map_or}
+use Rattle.dwt_packets.specs.declared.item.DwtItem.{DwtItem}
+use Rattle.dwt_packets.specs.declared.item.DwtItem.TheVariants.{MatchPc, MatchAddress, Read, Written}
+use Rattle.dwt_packets.specs.Table.{name}
 use Rattle.itm_grammar.specs.declared.packet.ItmPacket.{ItmPacket}
 use Rattle.itm_grammar.specs.declared.packet.ItmPacket.TheVariants.{Software, Hardware, Local, GlobalFirst, GlobalSecond}
 use Rattle.source_events.specs.declared.event.Event.{Event}
@@ -10,7 +14,7 @@ use Rattle.source_events.specs.declared.packet.Packet.{Packet}
 use Rattle.source_events.specs.declared.packet.Packet.TheVariants.{Itm as ItmKind, Stp as StpKind}
 use Rattle.source_events.specs.Merge.{is_of}
 use Rattle.item_tap.specs.declared.choice.Choice.{Choice}
-use Rattle.item_tap.specs.declared.choice.Choice.TheVariants.{OfKind, Source, Port, Time}
+use Rattle.item_tap.specs.declared.choice.Choice.TheVariants.{OfKind, Source, Port, Comparator, Time}
 use Rattle.item_tap.specs.declared.choice.Kind.{Kind}
 use Rattle.item_tap.specs.declared.choice.Kind.TheVariants.{Itm, Dwt, Stp, Raw, Trigger}
 use Rattle.item_tap.specs.declared.content.Content.{Content}
@@ -52,6 +56,20 @@ abbrev pub is_of_port : ℕ → Content → Bool
 is_of_port n (OfItm (Software port size value)) = port == n
 is_of_port n content = false
 
+-- the comparator whose match an item of the DWT tells
+abbrev pub comparator_of : DwtItem → Option ℕ
+comparator_of (MatchPc comparator pc) = Some comparator
+comparator_of (MatchAddress comparator low) = Some comparator
+comparator_of (Read comparator size value) = Some comparator
+comparator_of (Written comparator size value) = Some comparator
+comparator_of item = None
+
+-- the data, the address or the PC of a match of this comparator
+abbrev pub is_of_comparator : ℕ → Content → Bool
+is_of_comparator n (OfItm (Hardware disc size value)) =
+    option_map_or (λ comparator. comparator == n) (comparator_of (name disc size value)) false
+is_of_comparator n content = false
+
 -- a timestamp of an ITM source
 abbrev pub is_time : Content → Bool
 is_time (OfItm packet) = is_stamp packet
@@ -71,6 +89,7 @@ abbrev pub holds_in : Choice → Option ℕ → Content → Bool
 holds_in (OfKind kind) source content = is_of_kind kind content
 holds_in (Source x) source content = is_of_source x source content
 holds_in (Port n) source content = is_of_port n content
+holds_in (Comparator n) source content = is_of_comparator n content
 holds_in Time source content = is_time content
 
 -- one of these choices does

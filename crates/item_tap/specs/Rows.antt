@@ -10,7 +10,7 @@ use Rattle.source_events.specs.declared.event.What.TheVariants.{Packet as Given,
 use Rattle.source_events.specs.declared.packet.Packet.{Packet}
 use Rattle.source_events.specs.declared.packet.Packet.TheVariants.{Itm as ItmKind, Stp as StpKind}
 use Rattle.item_tap.specs.declared.choice.Choice.{Choice}
-use Rattle.item_tap.specs.declared.choice.Choice.TheVariants.{OfKind, Source, Port, Time}
+use Rattle.item_tap.specs.declared.choice.Choice.TheVariants.{OfKind, Source, Port, Comparator, Time}
 use Rattle.item_tap.specs.declared.choice.Kind.TheVariants.{Itm, Dwt, Stp, Raw, Trigger}
 use Rattle.item_tap.specs.Choices.{holds, holds_any}
 use Rattle.item_tap.specs.Windows.{passes}
@@ -18,7 +18,7 @@ use Rattle.item_tap.specs.Windows.{passes}
 abbrev pub some_choices : List Choice
 some_choices =
     OfKind Itm ∷ OfKind Dwt ∷ OfKind Stp ∷ OfKind Raw ∷ OfKind Trigger ∷ Source 1 ∷ Source 125 ∷ Port 0 ∷ Port 31
-    ∷ Time ∷ []
+    ∷ Comparator 0 ∷ Comparator 3 ∷ Time ∷ []
 
 -- those of them that hold for what this source, or the port, gives
 abbrev pub chosen_by : Option ℕ → What Packet → List Choice

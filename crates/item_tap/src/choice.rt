@@ -1,9 +1,10 @@
 //! Choices of events.
 
 ghost use Rattle.std.specs.Prelude.{◌≡◌};
-ghost use Rattle.item_tap.specs.Choices.{is_hardware, is_stamp, is_of_kind, is_of_source, is_of_port, is_time};
-ghost use Rattle.item_tap.specs.Choices.{holds, holds_in};
+ghost use Rattle.item_tap.specs.Choices.{is_hardware, is_stamp, is_of_kind, is_of_source, is_of_port, is_of_comparator};
+ghost use Rattle.item_tap.specs.Choices.{is_time, holds, holds_in};
 
+use crate::comparator::comparator_of;
 use crate::content::Content;
 use crate::rule::Rule;
 use itm_grammar::packet::ItmPacket;
@@ -34,6 +35,8 @@ pub enum Choice {
     Source(SourceId),
     /// What software wrote to this stimulus port of an ITM, 0 to 31.
     Port(u8),
+    /// The data, the address and the PC that the DWT of an ITM sends where this comparator, 0 to 3, matches.
+    Comparator(u8),
     /// The local and global timestamps of an ITM. Those of a system trace are no events of their own.
     Time,
 }
@@ -104,6 +107,18 @@ fn is_of_port(number: u8, content: &Content) -> bool
     }
 }
 
+/// Whether the DWT sent this at a match of the comparator of this number.
+#[inline(always)]
+fn is_of_comparator(number: u8, content: &Content) -> bool
+    ensures { result ≡ is_of_comparator number content.now }
+{
+    match content {
+        Content::Itm(ItmPacket::Hardware { disc, size, .. }) => comparator_of(*disc, *size)
+            == Some(number),
+        _ => false,
+    }
+}
+
 /// Whether this is a timestamp of an ITM.
 #[inline(always)]
 fn is_time(content: &Content) -> bool
@@ -125,6 +140,7 @@ impl Choice {
             Choice::OfKind(kind) => kind.is_kind_of(content),
             Choice::Source(id) => is_of_source(*id, source, content),
             Choice::Port(number) => is_of_port(*number, content),
+            Choice::Comparator(number) => is_of_comparator(*number, content),
             Choice::Time => is_time(content),
         }
     }

@@ -1,10 +1,11 @@
-//! Which events of a capture are wanted: choices and lists of them, rules in general, tests that are kept beside their rules, and windows
-//! between two of them.
+//! Which events of a capture are wanted: choices and lists of them, rules in general, tests that are kept beside their
+//! rules, and windows between two of them.
 #![tactic(auto)]
 
 mod bounds;
 mod choice;
 mod choices;
+mod comparator;
 mod content;
 pub mod laws;
 pub mod rows;

@@ -9,17 +9,25 @@ ghost use Rattle.stp_grammar.specs.declared.item.Stamp.TheVariants.{None as Unst
 ghost use Rattle.stp_grammar.specs.declared.item.StpItem.TheVariants.{Async, Trigger as StpTrigger};
 ghost use Rattle.source_events.specs.declared.event.What.TheVariants.{Locked, Packet as Given, Raw as Bytes, Trigger as TriggerByte};
 ghost use Rattle.source_events.specs.declared.packet.Packet.TheVariants.{Itm as ItmKind, Stp as StpKind};
-ghost use Rattle.item_tap.specs.declared.choice.Choice.TheVariants.{OfKind, Source, Port, Time};
+ghost use Rattle.item_tap.specs.declared.choice.Choice.TheVariants.{OfKind, Source, Port, Comparator, Time};
 ghost use Rattle.item_tap.specs.declared.choice.Kind.TheVariants.{Itm, Dwt, Stp, Raw, Trigger};
 ghost use Rattle.item_tap.specs.Rows.{chosen_by, met_by, within};
 
 /// What packets of an ITM source are chosen by.
+#[tactic(auto, unfolding(dwt_packets::specs::Table::name))]
 pub fn itm()
     ensures sync { chosen_by (Some 1) (Given (ItmKind Sync)) ≡ OfKind Itm ∷ Source 1 ∷ [] }
     ensures first_port { chosen_by (Some 2) (Given (ItmKind (Software 0 One 65))) ≡ OfKind Itm ∷ Port 0 ∷ [] }
     ensures last_port { chosen_by (Some 1) (Given (ItmKind (Software 31 Four 0))) ≡ OfKind Itm ∷ Source 1 ∷ Port 31 ∷ [] }
     ensures other_port { chosen_by (Some 2) (Given (ItmKind (Software 30 One 0))) ≡ OfKind Itm ∷ [] }
     ensures hardware { chosen_by (Some 1) (Given (ItmKind (Hardware 0 Two 0))) ≡ OfKind Dwt ∷ Source 1 ∷ [] }
+    ensures pc { chosen_by (Some 2) (Given (ItmKind (Hardware 8 Four 1))) ≡ OfKind Dwt ∷ Comparator 0 ∷ [] }
+    ensures address { chosen_by (Some 2) (Given (ItmKind (Hardware 15 Two 1))) ≡ OfKind Dwt ∷ Comparator 3 ∷ [] }
+    ensures read { chosen_by (Some 2) (Given (ItmKind (Hardware 16 One 0))) ≡ OfKind Dwt ∷ Comparator 0 ∷ [] }
+    ensures written { chosen_by (Some 2) (Given (ItmKind (Hardware 23 Four 0))) ≡ OfKind Dwt ∷ Comparator 3 ∷ [] }
+    ensures other_comparator { chosen_by (Some 2) (Given (ItmKind (Hardware 19 Two 0))) ≡ OfKind Dwt ∷ [] }
+    ensures no_pc { chosen_by (Some 2) (Given (ItmKind (Hardware 8 Two 1))) ≡ OfKind Dwt ∷ [] }
+    ensures no_address { chosen_by (Some 2) (Given (ItmKind (Hardware 9 Four 1))) ≡ OfKind Dwt ∷ [] }
     ensures overflow { chosen_by (Some 2) (Given (ItmKind Overflow)) ≡ OfKind Itm ∷ [] }
     ensures local { chosen_by (Some 1) (Given (ItmKind (Local Exact 0))) ≡ OfKind Itm ∷ Source 1 ∷ Time ∷ [] }
     ensures global1 { chosen_by (Some 2) (Given (ItmKind (GlobalFirst 1 0 false false))) ≡ OfKind Itm ∷ Time ∷ [] }

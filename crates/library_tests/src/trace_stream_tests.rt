@@ -11,7 +11,7 @@ use crate::same::same;
 use std::alloc::Global;
 use std::process::Abort;
 use std::test::Fail;
-use trace_io::{MemorySink, MemorySource};
+use trace_io::{MemorySink, MemorySource, SureSink};
 use trace_stream::{
     Action, Buffers, GREATEST_CAPTURE, Outcome, Outlet, Progress, RECENT_ROOM, serve,
 };
@@ -45,7 +45,7 @@ impl Action for Doubling {
         false
     }
 
-    fn feed(&mut self, piece: &[u8], outlet: &mut Outlet) -> Progress {
+    fn feed(&mut self, piece: &[u8], outlet: &mut Outlet, _notes: &mut Outlet) -> Progress {
         let byte = piece[0];
         self.count += 1;
         if byte == 255 {
@@ -120,6 +120,7 @@ fn check(
         case.limit,
         &mut input,
         &mut output,
+        &mut SureSink::new(),
     );
     same(rt, &"ended", &ended, &outcome);
     same(rt, &"output.held()", &output.held(), &text);
@@ -275,7 +276,14 @@ fn check_long(
     text.extend_from_slice(b"\nend\n")?;
     let mut input = MemorySource::new(&bytes, &[], read_fails);
     let mut output = MemorySink::new(&mut room, &[1000, 7], write_fails);
-    let ended = serve(&mut buffers, &mut action, 1 << 24, &mut input, &mut output);
+    let ended = serve(
+        &mut buffers,
+        &mut action,
+        1 << 24,
+        &mut input,
+        &mut output,
+        &mut SureSink::new(),
+    );
     same(rt, &"ended", &ended, &outcome);
     assert!(rt; count <= text.len());
     same(rt, &"output.held()", &output.held(), &&text[..count]);
@@ -307,7 +315,14 @@ fn check_recent(
     let mut room = [0; 128];
     let mut input = MemorySource::new(bytes, pieces, &[]);
     let mut output = MemorySink::new(&mut room, &[], &[]);
-    let ended = serve(&mut buffers, &mut action, 1 << 24, &mut input, &mut output);
+    let ended = serve(
+        &mut buffers,
+        &mut action,
+        1 << 24,
+        &mut input,
+        &mut output,
+        &mut SureSink::new(),
+    );
     same(rt, &"ended", &ended, &Outcome::FaultFound);
     let mut last = [0; RECENT_ROOM];
     let count = buffers.recent(&mut last);

@@ -1,12 +1,8 @@
 -- Bytes that come to the frames through a funnel.
 use Rattle.std.proofs.Common.{◌≡◌, ℕ, List, [], ◌∷◌, ◌++◌, ap, sym, ◌∙◌, subst, append_assoc, Option, None, Some}
-use Rattle.frame_writer.specs.Fronts.{sure_after}
+use Rattle.port_formatter.specs.Names.{sure_after, Tagged, written_segments, Act, Drain, State, Place, Turned, empty}
+use Rattle.port_formatter.specs.Names.{Turns}
 use Rattle.frame_writer.specs.Sure as sures
-use Rattle.frame_writer.specs.Written.{Tagged, written_segments}
-use Rattle.trace_funnel.specs.Acts.{Act, Drain}
-use Rattle.trace_funnel.specs.State.{State}
-use Rattle.trace_funnel.specs.Turns.{Place, Turned, empty}
-use Rattle.trace_funnel.specs.declared.turns.Turns.{Turns}
 use Rattle.port_formatter.specs.Formatter.{Stands, HasPassed, Puts, Ends, turns_by}
 use Rattle.port_formatter.specs.Passed.{from_funnel, bytes_acts, act_by, passed, places_after}
 use Rattle.port_formatter.specs.PassedLaws.{more_passed, passed_bytes, places_bytes, passed_ends, places_ends}

@@ -2,4 +2,3 @@ pub mod StraightWays
 pub mod RingWays
 pub mod Passings
 pub mod FunnelledWays
-pub mod Owing

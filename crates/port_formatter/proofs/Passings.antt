@@ -4,12 +4,10 @@ use Rattle.std.proofs.Common.{append-nil, append_assoc}
 use Rattle.std.proofs.Common.{zero, suc, refl, length, take, get_or, arith, true, false, Option, None, Bool}
 use Rattle.std.specs.Prelude.{IsTrue, is_some}
 use Rattle.std.proofs.lemmas.List.{take_more}
-use Rattle.frame_writer.specs.Sure.{of_one}
+use Rattle.port_formatter.specs.Names.{of_one, Act, Offer, Turn, Drain, act, State, with_places, Place, Turned, turn}
+use Rattle.port_formatter.specs.Names.{drain, load}
 use Rattle.trace_funnel.proofs.Acting.{acts_append}
 use Rattle.trace_funnel.proofs.Draining.{drain_none, drain_turn}
-use Rattle.trace_funnel.specs.Acts.{Act, Offer, Turn, Drain, act}
-use Rattle.trace_funnel.specs.State.{State, with_places}
-use Rattle.trace_funnel.specs.Turns.{Place, Turned, turn, drain, load}
 use Rattle.trace_funnel.specs.declared.tagged.Tagged.{Tagged as Given}
 use Rattle.port_formatter.specs.Passed.{bytes_acts}
 use Rattle.port_formatter.specs.Passing.{acts_of, Passes}

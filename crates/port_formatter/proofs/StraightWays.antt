@@ -1,8 +1,7 @@
 -- Bytes that come to the frames straight.
 use Rattle.std.proofs.Common.{◌≡◌, ℕ, List, ◌++◌, Option, None, Some, sym, subst}
 use Rattle.frame_writer.specs.Sure as sures
-use Rattle.frame_writer.specs.Written.{Tagged}
-use Rattle.trace_funnel.specs.declared.turns.Turns.{Turns}
+use Rattle.port_formatter.specs.Names.{Tagged, Turns}
 use Rattle.port_formatter.specs.Formatter.{Stands, Puts, Ends}
 use Rattle.port_formatter.specs.Port.{Port, sure_of, written}
 use Rattle.port_formatter.specs.Segments.{Segments, with_bytes, now_ended, after_flush}

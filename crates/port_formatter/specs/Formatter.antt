@@ -1,12 +1,7 @@
 -- What the formatter of a port stands for.
 use Rattle.std.specs.Prelude.{◌≡◌, ◌≤◌, ℕ, ◌+◌, ◌*◌, List, ◌++◌, length, Option, None, Some}
 use Rattle.frame_writer.specs.Sure as sures
-use Rattle.frame_writer.specs.Written.{Tagged}
-use Rattle.frame_writer.specs.declared.sure.SureWriter.{SureWriter}
-use Rattle.trace_funnel.specs.State.{State}
-use Rattle.trace_funnel.specs.Turns.{load}
-use Rattle.trace_funnel.specs.declared.turns.Turns.{Turns}
-use Rattle.trace_stream.specs.Debt.{Debt, owing}
+use Rattle.port_formatter.specs.Names.{Tagged, SureWriter, State, load, Turns, Debt, owing}
 use Rattle.port_formatter.specs.Passed.{places_after}
 use Rattle.port_formatter.specs.Port.{Port, sent, sure_of, written}
 use Rattle.port_formatter.specs.Ring.{filled_of, space_of}

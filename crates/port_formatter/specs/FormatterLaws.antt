@@ -1,8 +1,6 @@
 -- How much room a formatter has that gave all that is sure.
 use Rattle.std.proofs.Common.{◌≡◌, ◌≤◌, ℕ, ◌+◌, ◌*◌, List, [], ◌∷◌, length, refl, arith}
-use Rattle.frame_writer.specs.Sure.{held_by, pairs_of}
-use Rattle.frame_writer.specs.declared.sure.SureWriter.{SureWriter}
-use Rattle.trace_stream.specs.Debt.{Paid, owing}
+use Rattle.port_formatter.specs.Names.{held_by, pairs_of, SureWriter, Paid, owing}
 use Rattle.port_formatter.specs.Formatter.{debt_of, HasRoom}
 use Rattle.port_formatter.specs.declared.formatter.Formatter.{Formatter}
 use Rattle.port_formatter.specs.declared.formatter.Formatter.TheVariants.{Straight, Funnelled}

@@ -1,3 +1,4 @@
+pub mod Names
 pub mod Segments
 pub mod Passed
 pub mod PassedLaws
@@ -7,4 +8,3 @@ pub mod Ring
 pub mod Passing
 pub mod Formatter
 pub mod FormatterLaws
-pub mod Owed

@@ -1,10 +1,7 @@
 -- What a funnel passes on of segments of bytes (this project's profile).
 use Rattle.std.specs.Prelude.{List, [], ◌∷◌, ◌++◌, map}
-use Rattle.frame_writer.specs.Written.{Tagged}
-use Rattle.trace_funnel.specs.Acts.{acts, offers, Act, Drain}
-use Rattle.trace_funnel.specs.Turns.{Place, Turned, empty}
+use Rattle.port_formatter.specs.Names.{Tagged, acts, offers, Act, Drain, Place, Turned, empty, Turns}
 use Rattle.trace_funnel.specs.declared.tagged.Tagged.{Tagged as Given}
-use Rattle.trace_funnel.specs.declared.turns.Turns.{Turns}
 use Rattle.port_formatter.specs.Segments.{Segments}
 
 -- bytes as a funnel takes them, and as frames have them

@@ -1,12 +1,9 @@
 -- What a funnel passes on grows with what is offered to it.
 use Rattle.std.proofs.Common.{◌≡◌, List, [], ◌∷◌, ◌++◌, ◌∙◌, ap, append_assoc}
 use Rattle.std.proofs.lemmas.List.{map-append}
-use Rattle.frame_writer.specs.Written.{Tagged}
+use Rattle.port_formatter.specs.Names.{Tagged, Act, Offer, Drain, offers, Place, Turned, Turns}
 use Rattle.trace_funnel.proofs.Acting.{acts_append}
-use Rattle.trace_funnel.specs.Acts.{Act, Offer, Drain, offers}
-use Rattle.trace_funnel.specs.Turns.{Place, Turned}
 use Rattle.trace_funnel.specs.declared.tagged.Tagged.{Tagged as Given}
-use Rattle.trace_funnel.specs.declared.turns.Turns.{Turns}
 use Rattle.port_formatter.specs.Passed.{to_funnel, from_funnel, bytes_acts, whole_acts, act_by, passed_from}
 use Rattle.port_formatter.specs.Passed.{places_from}
 use Rattle.port_formatter.specs.Segments.{Segments, with_bytes, after_flush}

@@ -1,9 +1,6 @@
 -- What frames before which a funnel is do with bytes.
 use Rattle.std.specs.Prelude.{◌≡◌, List}
-use Rattle.frame_writer.specs.Sure.{Appends}
-use Rattle.trace_funnel.specs.Acts.{Act, acts}
-use Rattle.trace_funnel.specs.State.{State, with_places}
-use Rattle.trace_funnel.specs.Turns.{Turned}
+use Rattle.port_formatter.specs.Names.{Appends, Act, acts, State, with_places, Turned}
 use Rattle.port_formatter.specs.Passed.{from_funnel}
 use Rattle.port_formatter.specs.Ring.{kept_in}
 use Rattle.port_formatter.specs.declared.funnelled.FunnelledFrames.{FunnelledFrames}

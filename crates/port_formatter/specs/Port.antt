@@ -1,9 +1,7 @@
 -- How bytes go to a port, and what its capture is.
 use Rattle.std.specs.Prelude.{ℕ, List, Bool, true, ◌==◌, Option, None, Some}
 use Rattle.std.specs.List.{list_any}
-use Rattle.frame_writer.specs.Fronts.{sure_after}
-use Rattle.frame_writer.specs.Written.{Tagged, written_segments}
-use Rattle.trace_funnel.specs.declared.turns.Turns.{Turns}
+use Rattle.port_formatter.specs.Names.{sure_after, Tagged, written_segments, Turns}
 use Rattle.port_formatter.specs.Passed.{passed, all_passed}
 use Rattle.port_formatter.specs.Segments.{Segments}
 

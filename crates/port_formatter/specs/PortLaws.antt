@@ -1,10 +1,7 @@
 -- What is sure of a capture stays so.
 use Rattle.std.proofs.Common.{◌≡◌, ◌≤◌, ℕ, List, [], ◌++◌, ◌∙◌, ap, append_assoc, Option, None, Some}
 use Rattle.frame_writer.proofs.Fronts as fronts
-use Rattle.frame_writer.specs.Fronts.{sure_after}
-use Rattle.frame_writer.specs.Written.{Tagged, written_segments}
-use Rattle.trace_funnel.specs.Turns.{empty}
-use Rattle.trace_funnel.specs.declared.turns.Turns.{Turns}
+use Rattle.port_formatter.specs.Names.{sure_after, Tagged, written_segments, empty, Turns}
 use Rattle.port_formatter.specs.Passed.{passed, bytes_acts}
 use Rattle.port_formatter.specs.PassedLaws.{more_passed, passed_bytes, passed_whole}
 use Rattle.port_formatter.specs.Port.{Port, sent, all_sent, sure_of, written}

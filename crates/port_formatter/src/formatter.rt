@@ -24,9 +24,7 @@ pub enum Formatter {
 }
 
 impl Formatter {
-    ghost use Rattle.frame_writer.specs.Sure.{of_one};
-    ghost use Rattle.trace_funnel.specs.SoundTurns.{IsSoundTurns};
-    ghost use Rattle.trace_stream.specs.Debt.{Pours};
+    ghost use Rattle.port_formatter.specs.Names.{of_one, IsSoundTurns, Pours};
     ghost use Rattle.port_formatter.specs.Formatter.{Stands, Puts, Ends, HasRoom};
     ghost use Rattle.port_formatter.specs.Formatter.{turns_of, kept_by, count_of, debt_of};
     ghost use Rattle.port_formatter.specs.Port.{Port, has_place};

@@ -2,8 +2,7 @@
 
 ghost use Rattle.std.specs.Prelude.{◌≡◌, ◌≤◌, ◌<◌, ◌+◌, ◌*◌, ◌∷◌, [], ℕ, length, true, IfOk, Some};
 ghost use Rattle.std.specs.List.{All};
-ghost use Rattle.trace_funnel.specs.Turns.{load};
-ghost use Rattle.trace_values.specs.declared.limits.TheConstants.{COUNT_ROOM};
+ghost use Rattle.port_formatter.specs.Names.{load, COUNT_ROOM};
 
 use crate::ring_frames::RingFrames;
 use arrayvec::ArrayVec;
@@ -33,10 +32,7 @@ fn most_kept(places: usize, depth: usize) -> usize
 }
 
 impl FunnelledFrames {
-    ghost use Rattle.frame_writer.specs.Sure.{of_one};
-    ghost use Rattle.trace_funnel.specs.Acts.{Offer, Turn, Drain};
-    ghost use Rattle.trace_funnel.specs.SoundTurns.{IsSoundTurns};
-    ghost use Rattle.trace_funnel.specs.State.{id_at};
+    ghost use Rattle.port_formatter.specs.Names.{of_one, Offer, Turn, Drain, IsSoundTurns, id_at};
     ghost use Rattle.port_formatter.specs.Formatter.{Stands, Puts, Ends, HasRoom, turns_of, kept_by, count_of};
     ghost use Rattle.port_formatter.specs.Passed.{bytes_acts};
     ghost use Rattle.port_formatter.specs.Passing.{Passes};
@@ -72,7 +68,9 @@ impl FunnelledFrames {
         self.funnel.place(id).is_some()
     }
 
-    /// Offers bytes of a source that has a place, and puts what the funnel gives into the frames.
+    /// Offers bytes of a source that has a place, and puts what the funnel gives into the frames. Apart, so that bytes
+    /// that come straight need no room for it.
+    #[inline(never)]
     pub fn put_all(&mut self, id: SourceId, bytes: &[u8])
         requires place { has_place (turns_of (Funnelled self.old)) id ≡ true }
         requires count { count_of (Funnelled self.old) + length bytes.now ≤ COUNT_ROOM }

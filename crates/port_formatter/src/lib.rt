@@ -4,10 +4,8 @@
 
 mod formatter;
 mod funnelled;
-mod owed;
 mod ring_frames;
 mod straight;
 
 pub use formatter::Formatter;
-pub use owed::put_owed;
 pub use straight::KEPT_ROOM;

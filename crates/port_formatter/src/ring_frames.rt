@@ -2,10 +2,7 @@
 
 ghost use Rattle.std.specs.Prelude.{◌≡◌, ◌≤◌, ◌<◌, ◌+◌, ◌*◌, ◌++◌, ◌∷◌, [], ℕ, List, length, IfOk};
 ghost use Rattle.std.specs.List.{All};
-ghost use Rattle.frame_writer.specs.Written.{Tagged};
-ghost use Rattle.frame_writer.specs.Sure.{Appends, Ends, IsSure, count_of};
-ghost use Rattle.trace_stream.specs.Debt.{owing, Pours};
-ghost use Rattle.trace_values.specs.declared.limits.TheConstants.{COUNT_ROOM};
+ghost use Rattle.port_formatter.specs.Names.{Tagged, Appends, Ends, IsSure, count_of, owing, Pours, COUNT_ROOM};
 
 use arrayvec::ArrayVec;
 use circular_buffer::HeapCircularBuffer;
@@ -111,6 +108,8 @@ impl RingFrames {
     }
 
     /// Moves the first of the kept bytes to the outlet, as many as a call may put, and answers whether there were any.
+    /// Apart, so that frames that bytes come to straight need no room for it.
+    #[inline(never)]
     pub fn give(&mut self, outlet: &mut Outlet) -> bool
         requires room { length outlet.old + ACTION_ROOM ≤ OUTLET_ROOM }
         ensures frames { self.new.frames ≡ self.old.frames }

@@ -17,15 +17,15 @@ pub struct StraightFrames {
     pub(crate) kept: ArrayVec<u8, KEPT_ROOM>,
 }
 
-/// These bytes without their first ones.
+/// Drops the first of these bytes. Apart, so that what gives all of them needs no room for a rest.
 #[inline(never)]
-fn without_front<const N: usize>(bytes: &ArrayVec<u8, N>, count: usize) -> ArrayVec<u8, N>
-    requires { count ≤ length bytes.now.items }
-    ensures { result.items ≡ drop count bytes.now.items }
+fn drop_front<const N: usize>(bytes: &mut ArrayVec<u8, N>, count: usize)
+    requires { count ≤ length bytes.old.items }
+    ensures { bytes.new.items ≡ drop count bytes.old.items }
 {
     let mut rest = ArrayVec::new();
     let _ = rest.try_extend_from_slice(&bytes.as_slice()[count..]);
-    rest
+    *bytes = rest;
 }
 
 /// Puts the first of these bytes, as many as a call may put, and answers how many.
@@ -55,7 +55,7 @@ pub(crate) fn give_front<const N: usize>(bytes: &mut ArrayVec<u8, N>, outlet: &m
     if count == bytes.len() {
         bytes.clear();
     } else {
-        *bytes = without_front(bytes, count);
+        drop_front(bytes, count);
     }
     true
 }

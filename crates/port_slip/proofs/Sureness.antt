@@ -10,6 +10,7 @@ use Rattle.port_slip.specs.Coming.{opened, of_open}
 use Rattle.port_slip.specs.Sure.{sure}
 use Rattle.port_slip.proofs.Bits.{bits_length, low_bits, few_bits}
 use Rattle.port_slip.proofs.Cutting.{begun}
+use Rattle.port_slip.proofs.Runs.{run_most}
 use Rattle.port_slip.proofs.Table.{first_parts}
 use Rattle.port_slip.proofs.Windows.{quiet_full, quiet_byte, begun_window, passed_window}
 use Rattle.port_slip.proofs.Steps.{hunt_ends, hunt_goes, pass_ends, pass_goes, first_goes, hunt_over, pass_over}
@@ -70,13 +71,8 @@ At bytes so_far = InHunt bytes so_far ⊎ InSegment bytes so_far
 begun_is : (z : List Bool) → length z ≤ 7 → (IsWindow (run_after 0 z) (begun z)) × (length (begun z) ≤ 39)
 unfolding ones
 begun_is z h = (begun_window (run_after 0 z) z h refl (most z 0 h), omega arith) where
-  below : (z : List Bool) (q : ℕ) → run_after q z ≤ length z + q
-  below [] q = omega arith
-  below (true ∷ z) q = let i = below z (suc q) in omega arith
-  below (false ∷ z) q = let i = below z 0 in omega arith
-
   most : (z : List Bool) (q : ℕ) → length z ≤ 7 → run_after 0 z ≤ 7
-  most z q h = let b = below z 0 in omega arith
+  most z q h = let b = run_most z 0 in omega arith
 
 one_more : (bytes more : List ℕ) (b : ℕ) →
     (realigned ((bytes ++ b ∷ []) ++ more)).bytes ≡ (realigned (bytes ++ (b ∷ more))).bytes

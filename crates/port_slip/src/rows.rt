@@ -1,4 +1,5 @@
 //! Worked rows of realigned bytes, which the checker computes.
+#![tactic(auto, unfolding(crate::specs::Bits::bits))]
 
 ghost use Rattle.std.specs.Prelude.{◌≡◌, ◌++◌, codes};
 ghost use Rattle.trace_values.specs.Hex.{hex};

@@ -26,6 +26,8 @@ use Rattle.stretch_readings.specs.Steps.{said_by, raised}
 use Rattle.stretch_readings.proofs.Feeding.{longer, fallen, one_goes, one_falls, two_go, second_falls, first_falls}
 use Rattle.stretch_readings.proofs.Feeding.{given_longer, given_fallen, no_fault_by}
 use Rattle.recovering_machines.specs.Source.{Keeps}
+use Rattle.recovering_machines.specs.Units.{AreWhole}
+use Rattle.recovering_machines.proofs.Wholes.{step_whole}
 
 -- the fault of a step that is one
 abbrev fault_at : ℕ → Fault → Option (Place × Reason)
@@ -98,7 +100,7 @@ module _ (m e : SourceMachine) (past count : ℕ) (r : Stretches) (k : Keeps m p
     pub grows : Grows (reads r.now.hunts units) (reads r.now.hunts (units ++ taken)) at s
     grows = subst (λ (f : List Placed → Stream Packet). Grows (f units) (f (units ++ taken)) at s) k.reading t.grows
 
-    sound : (reads r.now.hunts (units ++ before_on kind at byte s)).fault ≡ None
+    pub sound : (reads r.now.hunts (units ++ before_on kind at byte s)).fault ≡ None
     sound = ap (λ (f : List Placed → Stream Packet). (f (units ++ before_on kind at byte s)).fault) (sym k.reading)
         ∙ t.sound
 
@@ -108,6 +110,11 @@ module _ (m e : SourceMachine) (past count : ℕ) (r : Stretches) (k : Keeps m p
     pub hunts_goes : goes_on s ≡ true →
         (fed_from reads from_fault r (map One (units_at kind at byte))).now.hunts ≡ r.now.hunts
     hunts_goes on = ap (λ x. x.now.hunts) (goes on)
+
+    pub whole_goes : goes_on s ≡ true → (its : SourceKind) → its ≡ kind → AreWhole kind units →
+        AreWhole its (fed_from reads from_fault r (map One (units_at kind at byte))).now.units
+    whole_goes on its same w = subst (λ x. AreWhole its x.now.units) (sym (goes on))
+        (subst (λ z. AreWhole z (units ++ taken)) (sym same) (step_whole kind units at byte s on w))
 
     pub keeps_goes : goes_on s ≡ true →
         Keeps e past count (fed_from reads from_fault r (map One (units_at kind at byte)))
@@ -140,6 +147,11 @@ module _ (m e : SourceMachine) (past count : ℕ) (r : Stretches) (k : Keeps m p
 
     pub hunts_falls : (fed_from reads from_fault r (map One (units_at kind at byte))).now.hunts ≡ true
     hunts_falls = ap (λ y. y.now.hunts) falls_to
+
+    pub whole_falls : (its : SourceKind) → AreWhole its (units_from its x.half at byte) → its ≡ kind →
+        AreWhole its (fed_from reads from_fault r (map One (units_at kind at byte))).now.units
+    whole_falls its w same = subst (λ y. AreWhole its y.now.units) (sym falls_to)
+        (subst (λ z. AreWhole its (units_from z x.half at byte)) same w)
 
     shown : (skipped_by e ≡ (reads r.now.hunts (units ++ fault_taken)).skipped)
         × (held_of e + 1 ≡ (reads r.now.hunts (units ++ fault_taken)).held)

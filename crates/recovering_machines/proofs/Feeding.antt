@@ -1,6 +1,6 @@
 -- One more byte.
 use Rattle.std.proofs.Common.{◌≡◌, ℕ, suc, ◌+◌, ◌-◌, ◌≤◌, List, [], ◌∷◌, ◌++◌, refl, sym, ◌∙◌, ap, arith, subst}
-use Rattle.std.proofs.Common.{append_assoc, append-nil, drop, get_or, length, take}
+use Rattle.std.proofs.Common.{append_assoc, append-nil, drop, get_or, inl, inr, length, take}
 use Rattle.std.proofs.Common.{Option, None, Some, Bool, true, false}
 use Rattle.std.specs.Prelude.{map}
 use Rattle.std.proofs.lemmas.List.{length-take-le, length_push, map-append}
@@ -14,11 +14,12 @@ use Rattle.trace_values.specs.Stream.{Stream}
 use Rattle.trace_values.specs.Hunted.{Found, hunt, hunted_by}
 use Rattle.frame_grammar.specs.Port.{PortItem, Full, State, start, rule}
 use Rattle.port_sync.specs.Hunting.{pattern}
+use Rattle.deformatter.specs.Frames.{GrowsByFrame}
 use Rattle.deformatter.specs.Growth.{PortGrows, fault_by}
 use Rattle.deformatter.specs.Reading.{PortStream, cells_in, port_stream, port_hunted}
 use Rattle.deformatter.specs.Resume.{again, taken_again}
 use Rattle.deformatter.specs.Block as block
-use Rattle.deformatter.specs.Block.{EachByte, FedAs, TakesBlock, TakesPiece}
+use Rattle.deformatter.specs.Block.{EachByte, FedAs, FedFrame, IsInside, TakesBlock, TakesPiece}
 use Rattle.deformatter.specs.Deformatter as deformatter
 use Rattle.deformatter.specs.declared.block.Taken.{Taken}
 use Rattle.deformatter.specs.declared.deformatter.Deformatter.{Deformatter}
@@ -29,7 +30,7 @@ use Rattle.stretch_readings.specs.Stretches.{Stretch, Stretches, One, fed, fed_f
 use Rattle.stretch_readings.proofs.StretchLaws.{from_append}
 use Rattle.trace_values.proofs.Standings.{none_of}
 use Rattle.deformatter.proofs.Readings.{shows}
-use Rattle.recovering_machines.specs.Port.{IsFed, Keeps, Stands, items_by}
+use Rattle.recovering_machines.specs.Port.{IsFed, Keeps, PassesFrame, Stands, items_by}
 use Rattle.recovering_machines.specs.Port.{from_halfword, raised, with_bytes, with_units}
 use Rattle.recovering_machines.specs.declared.port.RecoveringPort.{RecoveringPort}
 
@@ -53,32 +54,70 @@ goes_fault Frame e = refl
 goes_fault (Locked n) e = refl
 goes_fault (Faulty f) e = absurd (e f refl)
 
--- a byte whose answer is quiet is one more of the stretch, and so are more of them
+-- a byte that is no fault is one more of the stretch, as one whose answer is quiet
+byte_goes : (r : Stretches) (at byte : ℕ) →
+    (port_stream r.now.hunts (r.now.units ++ byte_at at byte ∷ [])).fault ≡ None →
+    fed items_by from_halfword r (One (byte_at at byte)) ≡ with_units r (r.now.units ++ byte_at at byte ∷ [])
+byte_goes r at byte none =
+    let w : List Placed = r.now.units ++ byte_at at byte ∷ [] in
+    ap (λ (o : Option (Place × Reason)). resumed_by items_by from_halfword o (with_units r w))
+    ((same r.now.hunts w).0 ∙ none)
+
 pub quiet_goes : (r : Stretches) (at byte : ℕ) →
     PortGrows (port_stream r.now.hunts r.now.units) (port_stream r.now.hunts (r.now.units ++ byte_at at byte ∷ [])) at
     Quiet → fed items_by from_halfword r (One (byte_at at byte)) ≡ with_units r (r.now.units ++ byte_at at byte ∷ [])
-quiet_goes r at byte g =
-    let w : List Placed = r.now.units ++ byte_at at byte ∷ [] in
-    ap (λ (o : Option (Place × Reason)). resumed_by items_by from_halfword o (with_units r w))
-    ((same r.now.hunts w).0 ∙ g.fault)
+quiet_goes r at byte g = byte_goes r at byte g.fault
+
+-- and so are more of them
+all_go : (IsSo : List Placed → ℕ → ℕ → Type 0) (h : Bool) →
+    ((u : List Placed) (at byte : ℕ) → IsSo u at byte → (port_stream h (u ++ byte_at at byte ∷ [])).fault ≡ None) →
+    (front : List ℕ) (r : Stretches) (at : ℕ) → r.now.hunts ≡ h → (port_stream h r.now.units).fault ≡ None →
+    EachByte IsSo r.now.units at front →
+    (with_bytes r at front ≡ with_units r (r.now.units ++ placed_from at front))
+    × ((port_stream h (r.now.units ++ placed_from at front)).fault ≡ None)
+all_go IsSo h goes [] r at m none e = (
+  ap (with_units r) (sym (append-nil r.now.units)),
+  ap (λ (u : List Placed). (port_stream h u).fault) (append-nil r.now.units) ∙ none,
+)
+all_go IsSo h goes (x ∷ front) r at m none e =
+    let w : List Placed = r.now.units ++ byte_at at x ∷ [] in
+    let sound = goes r.now.units at x e.0 in
+    let one = byte_goes r at x (ap (λ (b : Bool). (port_stream b w).fault) m ∙ sound) in
+    let rest = all_go IsSo h goes front (with_units r w) (at + 1) m sound e.1 in
+    let all = append_assoc r.now.units (byte_at at x ∷ []) (placed_from (at + 1) front) in (
+      ap (λ (s : Stretches). with_bytes s (at + 1) front) one ∙ rest.0 ∙ ap (with_units r) all,
+      ap (λ (u : List Placed). (port_stream h u).fault) (sym all) ∙ rest.1,
+    )
 
 pub front_goes : (front : List ℕ) (r : Stretches) (at : ℕ) → (port_stream r.now.hunts r.now.units).fault ≡ None →
     EachByte (block.Answers r.now.hunts Quiet) r.now.units at front →
     (with_bytes r at front ≡ with_units r (r.now.units ++ placed_from at front))
     × ((port_stream r.now.hunts (r.now.units ++ placed_from at front)).fault ≡ None)
-front_goes [] r at none e = (
-  ap (with_units r) (sym (append-nil r.now.units)),
-  ap (λ (u : List Placed). (port_stream r.now.hunts u).fault) (append-nil r.now.units) ∙ none,
-)
-front_goes (x ∷ front) r at none e =
+front_goes front r at none e =
+    all_go (block.Answers r.now.hunts Quiet) r.now.hunts (λ u a b g. g.fault) front r at refl none e
+
+-- the bytes of a whole frame
+inside_goes : (h : Bool) (u : List Placed) (at byte : ℕ) → IsInside h u at byte →
+    (port_stream h (u ++ byte_at at byte ∷ [])).fault ≡ None
+inside_goes h u at byte i = elim i [ inl g ↦ g.fault | inr g ↦ g.fault ]
+
+pub frame_goes : (r : Stretches) (at : ℕ) (bytes : List ℕ) → (port_stream r.now.hunts r.now.units).fault ≡ None →
+    FedFrame r.now.hunts r.now.units at bytes →
+    with_bytes r at bytes ≡ with_units r (r.now.units ++ placed_from at bytes)
+frame_goes r at bytes none t =
     let h = r.now.hunts in
-    let w : List Placed = r.now.units ++ byte_at at x ∷ [] in
-    let one = quiet_goes r at x e.0 in
-    let rest = front_goes front (with_units r w) (at + 1) e.0.fault e.1 in
-    let all = append_assoc r.now.units (byte_at at x ∷ []) (placed_from (at + 1) front) in (
-      ap (λ (s : Stretches). with_bytes s (at + 1) front) one ∙ rest.0 ∙ ap (with_units r) all,
-      ap (λ (u : List Placed). (port_stream h u).fault) (sym all) ∙ rest.1,
-    )
+    let here : List Placed = r.now.units ++ placed_from at t.front in
+    let last : Placed = byte_at (at + length t.front) t.last in
+    let in_two : placed_from at bytes ≡ placed_from at t.front ++ last ∷ [] =
+    ap (placed_from at) t.parts ∙ placed_from_push at t.front t.last in
+    let front = all_go (IsInside h) h (inside_goes h) t.front r at refl none t.quiet in
+    ap (λ (w : List Placed). fed_from items_by from_halfword r (map One w)) in_two
+    ∙ ap (λ l. fed_from items_by from_halfword r l) (map-append One (placed_from at t.front) (last ∷ []))
+    ∙ from_append items_by from_halfword (map One (placed_from at t.front)) (One last ∷ []) r
+    ∙ ap (λ (s : Stretches). fed items_by from_halfword s (One last)) front.0
+    ∙ byte_goes (with_units r here) (at + length t.front) t.last t.ends.fault
+    ∙ ap (with_units r) (append_assoc r.now.units (placed_from at t.front) (last ∷ [])
+    ∙ ap (λ (w : List Placed). r.now.units ++ w) (sym in_two))
 
 -- Bytes of which all but the last are quiet, and the last is answered so.
 module _ (r : Stretches) (at : ℕ) (bytes : List ℕ) (own : PortStep)
@@ -266,3 +305,22 @@ unraised count FullEnds n = refl
 unraised count Frame n = refl
 unraised count (Locked m) n = absurd (n m refl)
 unraised count (Faulty f) n = refl
+
+-- a whole frame that its deformatter passed over
+pub frame_passed : (p : RecoveringPort) (r : Stretches) (k : Stands p r) (f : List Placed) (halves at : ℕ)
+    (bytes : List ℕ) (id : Option ℕ) → FedFrame (deformatter.is_hunter p.port) r.now.units at bytes →
+    GrowsByFrame (port_stream (deformatter.is_hunter p.port) r.now.units)
+    (port_stream (deformatter.is_hunter p.port) (r.now.units ++ placed_from at bytes)) (placed_from at bytes) f halves
+    id → PassesFrame r at bytes f halves id
+frame_passed p r k f halves at bytes id fed grows =
+    let u = r.now.units in
+    let w = placed_from at bytes in
+    let own : FedFrame r.now.hunts u at bytes = subst (λ (h : Bool). FedFrame h u at bytes) k.mode fed in
+    record {
+      list =
+          frame_goes r at bytes (ap (λ h. (port_stream h u).fault) (sym k.mode) ∙ none_before p.port u k.stands p.live)
+          own;
+      grows =
+          subst (λ (h : Bool). GrowsByFrame (port_stream h u) (port_stream h (u ++ w)) w f halves id) k.mode grows;
+      fed = own;
+    }

@@ -5,8 +5,7 @@ use Rattle.std.specs.Prelude.{flat_map, is_none}
 use Rattle.std.proofs.lemmas.List.{map-append}
 use Rattle.trace_values.specs.declared.fault.Reason.{Reason}
 use Rattle.trace_values.specs.Placed.{Place, Placed}
-use Rattle.trace_values.specs.Stream.{Stream}
-use Rattle.trace_values.specs.Taking.{given_after, item_at}
+use Rattle.trace_values.specs.Stream.{Kept, Stream}
 use Rattle.trace_values.specs.Walk.{by_unit}
 use Rattle.trace_values.proofs.Modes as modes
 use Rattle.trace_values.proofs.Decorating as decorating
@@ -26,10 +25,11 @@ use Rattle.source_events.specs.declared.plan.SourceKind.{SourceKind}
 use Rattle.source_events.specs.declared.plan.SourceKind.TheVariants.{Itm, Stp}
 use Rattle.source_events.proofs.Lawful.{settled_as}
 use Rattle.source_machine.specs.Units.{reads_by}
+use Rattle.stretch_readings.specs.declared.heard.Heard.TheVariants.{Read}
 use Rattle.stretch_readings.specs.Stretches.{One, Stretches, broken, fed_from, from_fault, heard, heard_of, told}
 use Rattle.stretch_readings.specs.Words.{IsSettling}
 use Rattle.stretch_readings.proofs.Feeding.{longer, one_goes}
-use Rattle.recovering_machines.specs.AtOnce.{said_at}
+use Rattle.recovering_machines.specs.Found.{heard_in, kept}
 
 -- a fault ends the reading of a source's units
 pub sources_settle : (order : Order) (kind : SourceKind) → IsSettling (reads_by order kind)
@@ -70,29 +70,28 @@ module _ {V : Type 0} (reads : Bool → List Placed → Stream V) (settles : IsS
         now = record { hunts = h; count = r.now.count; units = u };
       }) all
 
--- what they say
-heard_at : (reads : Bool → List Placed → Stream Packet) (count half at : ℕ) (item : Option Packet) →
-    map (heard reads from_fault count) (given_after at (item_at half item)) ≡ said_at half at item
-heard_at reads count half at None = refl
-heard_at reads count half at (Some packet) = refl
+-- what the packets in them say
+heard_kept : (reads : Bool → List Placed → Stream Packet) (count : ℕ) (packets : List (Packet × Place)) →
+    map (heard reads from_fault count) (kept packets) ≡ heard_in packets
+heard_kept reads count [] = refl
+heard_kept reads count (p ∷ packets) =
+    ap (λ l. (Kept (Read p.0), p.1) ∷ l) (heard_kept reads count packets)
 
-pub given_more : (reads : Bool → List Placed → Stream Packet) (r : Stretches) (w : List Placed) (half at : ℕ)
-    (item : Option Packet) → (reads r.now.hunts r.now.units).fault ≡ None →
+pub given_more : (reads : Bool → List Placed → Stream Packet) (r : Stretches) (w : List Placed)
+    (packets : List (Packet × Place)) → (reads r.now.hunts r.now.units).fault ≡ None →
     (reads r.now.hunts (r.now.units ++ w)).fault ≡ None →
-    (reads r.now.hunts (r.now.units ++ w)).given
-    ≡ (reads r.now.hunts r.now.units).given ++ given_after at (item_at half item) →
-    (heard_of reads from_fault (longer reads r w)).given
-    ≡ (heard_of reads from_fault r).given ++ said_at half at item
-given_more reads r w half at item none sound given =
+    (reads r.now.hunts (r.now.units ++ w)).given ≡ (reads r.now.hunts r.now.units).given ++ kept packets →
+    (heard_of reads from_fault (longer reads r w)).given ≡ (heard_of reads from_fault r).given ++ heard_in packets
+given_more reads r w packets none sound given =
     let hear = heard reads from_fault r.now.count in
     let old = reads r.now.hunts r.now.units in
     let new = reads r.now.hunts (r.now.units ++ w) in
     let past = flat_map (told reads from_fault) r.past in
     let was : told reads from_fault r.now ≡ map hear old.given =
     ap (λ o. map hear old.given ++ broken reads from_fault o) none ∙ append-nil (map hear old.given) in
-    let is : told reads from_fault (longer reads r w).now ≡ map hear old.given ++ said_at half at item =
+    let is : told reads from_fault (longer reads r w).now ≡ map hear old.given ++ heard_in packets =
     ap (λ o. map hear new.given ++ broken reads from_fault o) sound ∙ append-nil (map hear new.given)
-    ∙ ap (map hear) given ∙ map-append hear old.given (given_after at (item_at half item))
-    ∙ ap (λ l. map hear old.given ++ l) (heard_at reads r.now.count half at item) in
-    ap (λ l. past ++ l) (is ∙ ap (λ l. l ++ said_at half at item) (sym was))
-    ∙ sym (append_assoc past (told reads from_fault r.now) (said_at half at item))
+    ∙ ap (map hear) given ∙ map-append hear old.given (kept packets)
+    ∙ ap (λ l. map hear old.given ++ l) (heard_kept reads r.now.count packets) in
+    ap (λ l. past ++ l) (is ∙ ap (λ l. l ++ heard_in packets) (sym was))
+    ∙ sym (append_assoc past (told reads from_fault r.now) (heard_in packets))

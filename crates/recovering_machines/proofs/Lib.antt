@@ -2,4 +2,8 @@ pub mod Feeding
 pub mod Bytes
 pub mod Runs
 pub mod Going
+pub mod Wholes
 pub mod OnceTaken
+pub mod FoundPackets
+pub mod ReadingOn
+pub mod Guessing

@@ -1,121 +1,189 @@
 -- Bytes of a source that are taken at once.
-use Rattle.std.proofs.Common.{◌≡◌, ℕ, List, [], ◌∷◌, ◌++◌, map, refl, sym, ◌∙◌, ap, subst, Option, None, Some, Bool}
+use Rattle.std.proofs.Common.{◌≡◌, ℕ, List, [], ◌∷◌, ◌++◌, refl, sym, ◌∙◌, ap, subst, Option, None, Some, Bool, true}
 use Rattle.std.specs.List.{sum_by}
 use Rattle.std.specs.Prelude.{IfSome}
 use Rattle.trace_values.specs.declared.cell.Cell.{Cell}
-use Rattle.trace_values.specs.Placed.{Placed, byte_at, units_of}
+use Rattle.trace_values.specs.declared.step.Step.{Step}
+use Rattle.trace_values.specs.Placed.{Place, Placed, byte_at}
+use Rattle.trace_values.specs.Placed as placed
 use Rattle.trace_values.specs.Stream.{Stream}
-use Rattle.trace_values.specs.Taking.{Passes, given_after, item_at}
+use Rattle.trace_values.specs.Taking.{given_after, item_at}
 use Rattle.source_events.specs.declared.packet.Packet.{Packet}
 use Rattle.source_events.specs.declared.plan.SourceKind.{SourceKind}
 use Rattle.source_events.specs.declared.plan.SourceKind.TheVariants.{Itm, Stp}
-use Rattle.source_events.specs.Runs.{bytes_of}
-use Rattle.source_machine.specs.Units.{StandsOn, reading_on, reads_on}
+use Rattle.source_events.specs.Runs.{bytes_of, placed_run}
+use Rattle.source_machine.specs.Finding.{PassesOver}
+use Rattle.source_machine.specs.Machine as machine
+use Rattle.source_machine.specs.Units.{ReadsAlike, StandsOn, kind_of as kind_on, reading_on, reads_on}
 use Rattle.source_machine.specs.UnitLaws.{shows_units}
 use Rattle.source_machine.specs.declared.machine.SourceMachine.{SourceMachine}
 use Rattle.source_machine.specs.declared.machine.SourceMachine.TheVariants.{Itm as ItmSource, Stp as StpSource}
-use Rattle.stretch_readings.specs.Stretches.{One, Stretches, fed_from, from_fault, lost_in}
+use Rattle.source_merge.proofs.RunSteps.{placed_more}
+use Rattle.stretch_readings.specs.Stretches.{Stretches, from_fault, lost_in}
 use Rattle.stretch_readings.specs.Words.{IsSettling}
 use Rattle.stretch_readings.proofs.Feeding.{longer}
 use Rattle.stp_grammar.specs.declared.packet.Order.TheVariants.{Msn}
 use Rattle.stp_codec.specs.Decoder as stp
-use Rattle.recovering_machines.specs.AtOnce.{PassesBytes, TakesCells, said_at}
+use Rattle.recovering_machines.specs.Found.{PassesCells, TakesCells, ended, heard_in, kept}
 use Rattle.recovering_machines.specs.Run.{units_in, with_run}
 use Rattle.recovering_machines.specs.Source.{Stands, heard_by}
+use Rattle.recovering_machines.specs.Units.{AreWhole, units_of}
 use Rattle.recovering_machines.specs.declared.source.RecoveringSource.{RecoveringSource}
 use Rattle.recovering_machines.proofs.Going.{all_go, given_more, sources_settle}
+use Rattle.recovering_machines.proofs.Wholes.{reads_bytes, stands_bytes, stands_units, units_more}
 
 settles_on : (m : SourceMachine) → IsSettling (reads_on m)
 settles_on (ItmSource decoder) = sources_settle Msn Itm
 settles_on (StpSource decoder) = sources_settle (stp.order_of decoder) Stp
 
--- cells as units of a source whose units are bytes
-units_are : (cells : List Cell) → units_of (units_in Itm cells) ≡ bytes_of cells
-units_are [] = refl
-units_are (c ∷ cells) = ap (λ (l : List ℕ). c.byte ∷ l) (units_are cells)
+-- the bytes of cells
+pub units_bytes : (cells : List Cell) → placed.units_of (placed_run cells) ≡ bytes_of cells
+units_bytes [] = refl
+units_bytes (c ∷ cells) = ap (λ (l : List ℕ). c.byte ∷ l) (units_bytes cells)
 
-units_last : (front : List Cell) (last : Cell) →
-    units_in Itm (front ++ last ∷ []) ≡ units_in Itm front ++ byte_at last.at last.byte ∷ []
-units_last [] last = refl
-units_last (c ∷ front) last = ap (λ (l : List Placed). byte_at c.at c.byte ∷ l) (units_last front last)
+kept_item : (half at : ℕ) (item : Option Packet) → given_after at (item_at half item) ≡ kept (ended half at item)
+kept_item half at None = refl
+kept_item half at (Some packet) = refl
 
-module _ (old new : RecoveringSource) (same_past : new.past ≡ old.past) (same_count : new.count ≡ old.count)
-    (same_hunts : new.hunts ≡ old.hunts) (same_reads : reads_on new.machine ≡ reads_on old.machine)
-    (same_reading : reading_on new.machine ≡ reading_on old.machine) (bytes : List ℕ) (half : ℕ)
-    (item : Option Packet) (p : PassesBytes old.machine new.machine bytes (item_at half item)) where
-  module _ (r : Stretches) (front : List Cell) (last : Cell) (k : Stands old r)
-      (e : bytes_of (front ++ last ∷ []) ≡ bytes) where
-    abbrev reads : Bool → List Placed → Stream Packet
-    reads = reads_on old.machine
-
-    abbrev w : List Placed
-    w = units_in Itm front ++ byte_at last.at last.byte ∷ []
-
-    passed : Passes (reading_on old.machine) (StandsOn new.machine) r.now.units (units_in Itm front)
-        (byte_at last.at last.byte) (item_at half item)
-    passed = p.passes r.now.units (units_in Itm front) last.at last.byte k.keeps.stands
-        (ap units_of (sym (units_last front last)) ∙ units_are (front ++ last ∷ []) ∙ e)
-
-    none : (reads r.now.hunts r.now.units).fault ≡ None
-    none = ap (λ (f : List Placed → Stream Packet). (f r.now.units).fault) (sym k.keeps.reading)
-        ∙ (shows_units old.machine r.now.units k.keeps.stands old.live).0
-
-    sound : (reads r.now.hunts (r.now.units ++ w)).fault ≡ None
-    sound = ap (λ (f : List Placed → Stream Packet). (f (r.now.units ++ w)).fault) (sym k.keeps.reading) ∙ passed.sound
-
-    goes : with_run old r (front ++ last ∷ []) ≡ longer reads r w
-    goes =
-        ap (λ (z : SourceKind). fed_from reads from_fault r (map One (units_in z (front ++ last ∷ [])))) p.kind
-        ∙ ap (λ (l : List Placed). fed_from reads from_fault r (map One l)) (units_last front last)
-        ∙ all_go reads (settles_on old.machine) w r sound
-
-    stands_after : Stands new (longer reads r w)
-    stands_after = record {
-      keeps =
-          record {
-            stands = passed.list;
-            reading = same_reading ∙ k.keeps.reading ∙ ap (λ (f : Bool → List Placed → Stream Packet). f r.now.hunts)
-                (sym same_reads);
-            past_is = same_past ∙ k.keeps.past_is
-                ∙ ap (λ (f : Bool → List Placed →
-                Stream Packet). sum_by (lost_in f from_fault) r.past) (sym same_reads);
-            count_is = same_count ∙ k.keeps.count_is;
-          };
-      hunts = same_hunts ∙ k.hunts;
+-- bytes that are passed over, in these cells
+pub passes_cells : (reading : List Placed → Stream Packet) (was now : List Placed → Type 0) (bytes : List ℕ)
+    (step : Option (Step Packet)) (packets : List (Packet × Place)) (front : List Cell) (last : Cell) →
+    PassesOver reading was now bytes step → bytes_of (front ++ last ∷ []) ≡ bytes →
+    given_after last.at step ≡ kept packets → PassesCells reading was now (front ++ last ∷ []) packets
+passes_cells reading was now bytes step packets front last p e gives =
+    let more = placed_more front (last ∷ []) in
+    let there : placed.units_of (placed_run front ++ byte_at last.at last.byte ∷ []) ≡ bytes =
+    ap placed.units_of (sym more) ∙ units_bytes (front ++ last ∷ []) ∙ e in
+    record {
+      list = λ u s. subst (λ (l : List Placed). now (u ++ l)) (sym more)
+          (p u (placed_run front) last.at last.byte s there).list;
+      given = λ u s. ap (λ (l : List Placed). (reading (u ++ l)).given) more
+          ∙ (p u (placed_run front) last.at last.byte s there).given ∙ ap (λ l. (reading u).given ++ l) gives;
+      sound = λ u s. ap (λ (l : List Placed). (reading (u ++ l)).fault) more
+          ∙ (p u (placed_run front) last.at last.byte s there).sound;
     }
 
-    given_after_all : (heard_by old (with_run old r (front ++ last ∷ []))).given
-        ≡ (heard_by old r).given ++ said_at half last.at item
-    given_after_all =
-        ap (λ (s : Stretches). (heard_by old s).given) goes
-        ∙ given_more reads r w half last.at item none sound
-        (ap (λ (f : List Placed → Stream Packet). (f (r.now.units ++ w)).given) (sym k.keeps.reading) ∙ passed.given
-        ∙ ap (λ (f : List Placed → Stream Packet). (f r.now.units).given
-        ++ given_after last.at (item_at half item)) k.keeps.reading)
+passes_item : {reading : List Placed → Stream Packet} {was now : List Placed → Type 0} (half : ℕ)
+    (item : Option Packet) (bytes : List ℕ) → PassesOver reading was now bytes (item_at half item) →
+    (front : List Cell) (last : Cell) → bytes_of (front ++ last ∷ []) ≡ bytes →
+    PassesCells reading was now (front ++ last ∷ []) (ended half last.at item)
+passes_item {reading} {was} {now} half item bytes p front last e =
+    passes_cells reading was now bytes (item_at half item) (ended half last.at item) front last p e
+    (kept_item half last.at item)
 
-  pub takes_cells : TakesCells old new bytes (λ at. said_at half at item)
-  takes_cells = record {
-    list = λ r front last k e. subst (Stands new) (sym (goes r front last k e)) (stands_after r front last k e);
-    given = λ r front last k e. given_after_all r front last k e;
-  }
+module _ (old new : RecoveringSource) (same_past : new.past ≡ old.past) (same_count : new.count ≡ old.count)
+    (same_hunts : new.hunts ≡ old.hunts) (alike : ReadsAlike old.machine new.machine) (whole : old.whole ≡ true)
+  where
+    module _ (cells : List Cell) (packets : List (Packet × Place))
+        (p : PassesCells (machine.reading_of old.machine) (machine.Stands old.machine) (machine.Stands new.machine) cells
+        packets) where
+      module _ (r : Stretches) (k : Stands old r) where
+        abbrev reads : Bool → List Placed → Stream Packet
+        reads = reads_on old.machine
+
+        abbrev kind : SourceKind
+        kind = kind_on old.machine
+
+        abbrev w : List Placed
+        w = units_in kind cells
+
+        own : AreWhole kind r.now.units
+        own = k.whole whole
+
+        here : r.now.units ≡ units_of kind own.bytes
+        here = own.are
+
+        all : r.now.units ++ w ≡ units_of kind (own.bytes ++ placed_run cells)
+        all = ap (λ (l : List Placed). l ++ w) here ∙ units_more kind own.bytes cells
+
+        stood : machine.Stands old.machine own.bytes
+        stood = stands_bytes old.machine own.bytes (subst (StandsOn old.machine) here k.keeps.stands)
+
+        read_here : reading_on old.machine r.now.units ≡ machine.reading_of old.machine own.bytes
+        read_here = ap (reading_on old.machine) here ∙ sym (reads_bytes old.machine own.bytes)
+
+        read_all : reading_on old.machine (r.now.units ++ w)
+            ≡ machine.reading_of old.machine (own.bytes ++ placed_run cells)
+        read_all = ap (reading_on old.machine) all ∙ sym (reads_bytes old.machine (own.bytes ++ placed_run cells))
+
+        none : (reads r.now.hunts r.now.units).fault ≡ None
+        none = ap (λ (f : List Placed → Stream Packet). (f r.now.units).fault) (sym k.keeps.reading)
+            ∙ (shows_units old.machine r.now.units k.keeps.stands old.live).0
+
+        sound : (reads r.now.hunts (r.now.units ++ w)).fault ≡ None
+        sound = ap (λ (f : List Placed → Stream Packet). (f (r.now.units ++ w)).fault) (sym k.keeps.reading)
+            ∙ ap (λ (s : Stream Packet). s.fault) read_all ∙ p.sound own.bytes stood
+
+        given : (reads r.now.hunts (r.now.units ++ w)).given ≡ (reads r.now.hunts r.now.units).given ++ kept packets
+        given =
+            ap (λ (f : List Placed → Stream Packet). (f (r.now.units ++ w)).given) (sym k.keeps.reading)
+            ∙ ap (λ (s : Stream Packet). s.given) read_all ∙ p.given own.bytes stood
+            ∙ ap (λ (s : Stream Packet). s.given ++ kept packets) (sym read_here)
+            ∙ ap (λ (f : List Placed → Stream Packet). (f r.now.units).given ++ kept packets) k.keeps.reading
+
+        goes : with_run old r cells ≡ longer reads r w
+        goes = all_go reads (settles_on old.machine) w r sound
+
+        now_all : r.now.units ++ w ≡ units_of (kind_on new.machine) (own.bytes ++ placed_run cells)
+        now_all = all ∙ ap (λ (z : SourceKind). units_of z (own.bytes ++ placed_run cells)) (sym alike.kind)
+
+        stands_after : Stands new (longer reads r w)
+        stands_after = record {
+          keeps =
+              record {
+                stands = subst (StandsOn new.machine) (sym now_all)
+                    (stands_units new.machine (own.bytes ++ placed_run cells) (p.list own.bytes stood));
+                reading = alike.own ∙ k.keeps.reading
+                    ∙ ap (λ (f : Bool → List Placed → Stream Packet). f r.now.hunts) (sym alike.any);
+                past_is = same_past ∙ k.keeps.past_is
+                    ∙ ap (λ (f : Bool → List Placed → Stream Packet). sum_by (lost_in f from_fault) r.past)
+                    (sym alike.any);
+                count_is = same_count ∙ k.keeps.count_is;
+              };
+          hunts = same_hunts ∙ k.hunts;
+          whole = λ e. record { bytes = own.bytes ++ placed_run cells; are = now_all };
+        }
+
+        pub list_after : Stands new (with_run old r cells)
+        list_after = subst (Stands new) (sym goes) stands_after
+
+        pub given_after_all : (heard_by old (with_run old r cells)).given ≡ (heard_by old r).given ++ heard_in packets
+        given_after_all = ap (λ (s : Stretches). (heard_by old s).given) goes ∙ given_more reads r w packets none sound given
+
+    pub takes_cells : (bytes : List ℕ) (half : ℕ) (item : Option Packet) →
+        PassesOver (machine.reading_of old.machine) (machine.Stands old.machine) (machine.Stands new.machine) bytes
+        (item_at half item) → TakesCells old new bytes (λ at. heard_in (ended half at item))
+    takes_cells bytes half item p = record {
+      list = λ r front last k e.
+          list_after (front ++ last ∷ []) (ended half last.at item) (passes_item half item bytes p front last e) r k;
+      given = λ r front last k e.
+          given_after_all (front ++ last ∷ []) (ended half last.at item) (passes_item half item bytes p front last e) r k;
+    }
 
 -- what it stood for it stands for, where nothing was taken
 pub stays : (old new : RecoveringSource) → new.past ≡ old.past → new.count ≡ old.count → new.hunts ≡ old.hunts →
-    reads_on new.machine ≡ reads_on old.machine → reading_on new.machine ≡ reading_on old.machine →
-    ((n : List Placed) → StandsOn old.machine n → StandsOn new.machine n) → (r : Stretches) → Stands old r →
+    ReadsAlike old.machine new.machine → old.whole ≡ true →
+    ((u : List Placed) → machine.Stands old.machine u → machine.Stands new.machine u) → (r : Stretches) → Stands old r →
     Stands new r
-stays old new past count hunts reads reading list r k = record {
-  keeps =
-      record {
-        stands = list r.now.units k.keeps.stands;
-        reading = reading ∙ k.keeps.reading ∙ ap (λ (f : Bool → List Placed →
-            Stream Packet). f r.now.hunts) (sym reads);
-        past_is = past ∙ k.keeps.past_is
-            ∙ ap (λ (f : Bool → List Placed → Stream Packet). sum_by (lost_in f from_fault) r.past) (sym reads);
-        count_is = count ∙ k.keeps.count_is;
-      };
-  hunts = hunts ∙ k.hunts;
-}
+stays old new past count hunts alike whole list r k =
+    let own = k.whole whole in
+    let now : r.now.units ≡ units_of (kind_on new.machine) own.bytes =
+    own.are ∙ ap (λ (z : SourceKind). units_of z own.bytes) (sym alike.kind) in
+    record {
+      keeps =
+          record {
+            stands = subst (StandsOn new.machine) (sym now) (stands_units new.machine own.bytes
+                (list own.bytes (stands_bytes old.machine own.bytes
+                (subst (StandsOn old.machine) own.are k.keeps.stands))));
+            reading = alike.own ∙ k.keeps.reading
+                ∙ ap (λ (f : Bool → List Placed → Stream Packet). f r.now.hunts) (sym alike.any);
+            past_is = past ∙ k.keeps.past_is
+                ∙ ap (λ (f : Bool → List Placed → Stream Packet). sum_by (lost_in f from_fault) r.past) (sym alike.any);
+            count_is = count ∙ k.keeps.count_is;
+          };
+      hunts = hunts ∙ k.hunts;
+      whole = λ e. record { bytes = own.bytes; are = now };
+    }
 
 pub if_some : {A : Type 0} (P Q : A → Type 0) → ((x : A) → P x → Q x) → (o : Option A) → IfSome o P → IfSome o Q
 if_some P Q f None h = h

@@ -1,11 +1,11 @@
 -- A run, cell by cell.
 use Rattle.std.proofs.Common.{◌≡◌, ℕ, ◌+◌, ◌≤◌, List, [], ◌∷◌, ◌++◌, refl, sym, ◌∙◌, ap, arith, subst, append_assoc}
-use Rattle.std.proofs.Common.{append-nil, drop, get_or, length, length-append, ◌<◌, ◌-◌}
-use Rattle.std.proofs.Common.{suc, take, zero, ◌*◌, Option, Some, Bool}
+use Rattle.std.proofs.Common.{append-nil, drop, length, length-append, ◌-◌}
+use Rattle.std.proofs.Common.{take, ◌*◌, Option, Some, Bool}
 use Rattle.std.specs.Prelude.{map}
 use Rattle.std.proofs.lemmas.Grind.{flat_map-append}
-use Rattle.std.proofs.lemmas.List.{length-drop, length-map, length-take-le}
-use Rattle.std.proofs.lemmas.List.{length_push, map-append, take_all, take_more}
+use Rattle.std.proofs.lemmas.List.{drop-append-le, drop-take, length-drop, length-take-le}
+use Rattle.std.proofs.lemmas.List.{length_push, map-append, take-append-drop, take-take}
 use Rattle.trace_values.specs.declared.cell.Cell.{Cell}
 use Rattle.trace_values.specs.declared.step.Step.{Step}
 use Rattle.trace_values.specs.Placed.{Place, Placed}
@@ -22,8 +22,8 @@ use Rattle.stretch_readings.specs.Stretches.{One, Stretches, fed_from, heard_of,
 use Rattle.stretch_readings.specs.Steps.{said_by}
 use Rattle.stretch_readings.proofs.StretchLaws.{from_append}
 use Rattle.source_events.specs.Runs.{bytes_of}
-use Rattle.recovering_machines.specs.AtOnce.{TakesCells, said_at}
-use Rattle.recovering_machines.specs.Run.{TakesRun, units_in, with_run}
+use Rattle.recovering_machines.specs.Found.{TakesCells, ended, heard_in}
+use Rattle.recovering_machines.specs.Run.{TakesRun, between, units_in, with_run}
 use Rattle.recovering_machines.specs.Source.{Stands, heard_by, kind_of, reads_of, total_of, with_byte}
 use Rattle.recovering_machines.specs.declared.source.RecoveringSource.{RecoveringSource}
 
@@ -47,62 +47,26 @@ told_append id a b =
     ∙ map-append (λ (e : What (Heard Packet) × Place).
     record { at = e.1.at; half = e.1.half; source = Some id; what = e.0 }) (lifted a) (lifted b)
 
-take_none : (k : ℕ) → take {A = Cell} k [] ≡ []
-take_none zero = refl
-take_none (suc k) = refl
+-- cells from one index up to another
+pub between_all : (from to : ℕ) (cells : List Cell) → from ≤ to → to ≤ length cells →
+    length (between from to cells) ≡ to - from
+between_all from to cells o l =
+    let a = length-drop from (take to cells) in let b = length-take-le to cells l in omega (arith, a, b)
 
--- the front of a list, and what is taken after it
-pub take_parts : (n m : ℕ) (cells : List Cell) → take (n + m) cells ≡ take n cells ++ take m (drop n cells)
-take_parts zero m cells = ap (λ (k : ℕ). take k cells) (let z : 0 + m ≡ m = omega arith in z)
-take_parts (suc n) m [] =
-    ap (λ (k : ℕ). take k []) (let z : suc n + m ≡ suc (n + m) = omega arith in z) ∙ sym (take_none m)
-take_parts (suc n) m (x ∷ cells) =
-    ap (λ (k : ℕ). take k (x ∷ cells)) (let z : suc n + m ≡ suc (n + m) = omega arith in z)
-    ∙ ap (λ (l : List Cell). x ∷ l) (take_parts n m cells)
+pub between_as : (from count : ℕ) (cells : List Cell) → between from (from + count) cells ≡ take count (drop from cells)
+between_as from count cells = drop-take from count cells
 
--- the bytes of a front, and of a rest
-pub bytes_taken : (n : ℕ) (cells : List Cell) → bytes_of (take n cells) ≡ take n (bytes_of cells)
-bytes_taken zero cells = refl
-bytes_taken (suc n) [] = refl
-bytes_taken (suc n) (c ∷ cells) = ap (λ (l : List ℕ). c.byte ∷ l) (bytes_taken n cells)
+pub between_none : (from : ℕ) (cells : List Cell) → between from from cells ≡ []
+between_none from cells =
+    ap (λ (n : ℕ). between from n cells) (let e : from ≡ from + 0 = omega arith in e) ∙ between_as from 0 cells
 
-pub bytes_dropped : (n : ℕ) (cells : List Cell) → drop n (bytes_of cells) ≡ bytes_of (drop n cells)
-bytes_dropped zero cells = refl
-bytes_dropped (suc n) [] = refl
-bytes_dropped (suc n) (c ∷ cells) = bytes_dropped n cells
-
-pub bytes_size : (cells : List Cell) (bytes : List ℕ) → bytes ≡ bytes_of cells → length bytes ≡ length cells
-bytes_size cells bytes e = ap length e ∙ length-map cells (λ (c : Cell). c.byte)
-
--- the last of the cells that are taken
-pub cells_last : (n : ℕ) (cells : List Cell) (d cell : Cell) → 0 < n → n ≤ length cells →
-    cell ≡ get_or cells (n - 1) d →
-    take n cells ≡ take (n - 1) cells ++ cell ∷ []
-cells_last n cells d cell some l e =
-    ap (λ (k : ℕ). take k cells) (let k : n ≡ (n - 1) + 1 = omega (arith, some) in k)
-    ∙ take_more cells (n - 1) d (omega (arith, some, l))
-    ∙ ap (λ (c : Cell). take (n - 1) cells ++ c ∷ []) (sym e)
-
--- what is left after a front
-tail_of : (n : ℕ) (cells : List Cell) → take (length cells - n) (drop n cells) ≡ drop n cells
-tail_of n cells = take_all (length cells - n) (drop n cells) (let a = length-drop n cells in omega (arith, a))
-
-pub front_next : (done n : ℕ) (cells : List Cell) →
-    take done cells ++ take n (take (length cells - done) (drop done cells)) ≡ take (done + n) cells
-front_next done n cells = ap (λ (l : List Cell). take done cells ++ take n l) (tail_of done cells)
-    ∙ sym (take_parts done n cells)
-
-pub rest_size : (done : ℕ) (cells : List Cell) →
-    length (take (length cells - done) (drop done cells)) ≡ length cells - done
-rest_size done cells = ap length (tail_of done cells) ∙ length-drop done cells
-
-pub rest_bytes : (done : ℕ) (cells : List Cell) (bytes : List ℕ) → bytes ≡ bytes_of cells →
-    take (length bytes - done) (drop done bytes) ≡ bytes_of (take (length cells - done) (drop done cells))
-rest_bytes done cells bytes e =
-    ap (λ (b : List ℕ). take (length b - done) (drop done b)) e
-    ∙ ap (λ (n : ℕ). take (n - done) (drop done (bytes_of cells))) (length-map cells (λ (c : Cell). c.byte))
-    ∙ ap (take (length cells - done)) (bytes_dropped done cells)
-    ∙ sym (bytes_taken (length cells - done) (drop done cells))
+pub between_more : (from mid end : ℕ) (cells : List Cell) → from ≤ mid → mid ≤ end → end ≤ length cells →
+    between from end cells ≡ between from mid cells ++ between mid end cells
+between_more from mid end cells a b l =
+    ap (drop from) (sym (take-append-drop mid (take end cells)))
+    ∙ ap (λ (x : List Cell). drop from (x ++ drop mid (take end cells))) (take-take mid end cells b)
+    ∙ drop-append-le from (take mid cells) (drop mid (take end cells))
+    (let t = length-take-le mid cells (omega (arith, b, l)) in omega (arith, a, t))
 
 module _ {S : Type 0} (gets : S → List (Event (Heard Packet)) → S → Type 0) (room : S →
     ℕ) (gets_none : (s : S) → gets s [] s)
@@ -176,15 +140,15 @@ module _ {S : Type 0} (gets : S → List (Event (Heard Packet)) → S → Type 0
   -- cells whose bytes were taken at once
   pub takes_cells : (old new : RecoveringSource) (a b : S) (front : List Cell) (last : Cell) (bytes : List ℕ)
       (half : ℕ) (item : Option Packet) → kind_of new ≡ kind_of old → reads_of new ≡ reads_of old →
-      TakesCells old new bytes (λ at. said_at half at item) → bytes_of (front ++ last ∷ []) ≡ bytes →
+      TakesCells old new bytes (λ at. heard_in (ended half at item)) → bytes_of (front ++ last ∷ []) ≡ bytes →
       total_of new ≤ total_of old + 4 * length (front ++ last ∷ []) →
-      gets a (told (Some id) (lifted (said_at half last.at item))) b → room a ≤ room b + 1 →
+      gets a (told (Some id) (lifted (heard_in (ended half last.at item)))) b → room a ≤ room b + 1 →
       TakesRun gets room id (front ++ last ∷ []) old new a b
   takes_cells old new a b front last bytes half item kind reads t e few received space = record {
     kind = kind;
     reads = reads;
     list = λ r k. t.list r front last k e;
-    said = said_at half last.at item;
+    said = heard_in (ended half last.at item);
     received = received;
     given = λ r k. t.given r front last k e;
     space = (let l = length_push front last in omega (arith, l, space));
@@ -205,19 +169,3 @@ module _ {S : Type 0} (gets : S → List (Event (Heard Packet)) → S → Type 0
     space = omega arith;
     few = omega (arith, few);
   }
-
-  -- the front of cells, whose bytes were taken at once
-  pub takes_packet : (old new : RecoveringSource) (a b : S) (n : ℕ) (cells : List Cell) (bytes : List ℕ)
-      (d cell : Cell) (half : ℕ) (item : Option Packet) → 0 < n → n ≤ length cells → cell ≡ get_or cells (n - 1) d →
-      bytes ≡ bytes_of cells → kind_of new ≡ kind_of old → reads_of new ≡ reads_of old →
-      TakesCells old new (take n bytes) (λ at. said_at half at item) → total_of new ≤ total_of old + 4 * n →
-      gets a (told (Some id) (lifted (said_at half cell.at item))) b → room a ≤ room b + 1 →
-      TakesRun gets room id (take n cells) old new a b
-  takes_packet old new a b n cells bytes d cell half item some l e same kind reads t few received space =
-      let split = cells_last n cells d cell some l e in
-      let size = length-take-le n cells l in
-      let whole : length (take (n - 1) cells ++ cell ∷ []) ≡ n = ap length (sym split) ∙ size in
-      subst (λ (c : List Cell). TakesRun gets room id c old new a b) (sym split)
-      (takes_cells old new a b (take (n - 1) cells) cell (take n bytes) half item kind reads t
-      (ap bytes_of (sym split) ∙ bytes_taken n cells ∙ ap (take n) (sym same))
-      (let f = few in let w = whole in omega (arith, f, w)) received space)

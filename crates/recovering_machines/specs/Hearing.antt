@@ -1,5 +1,5 @@
 -- What events of a recovering report are in a strict one, and which are given.
-use Rattle.std.specs.Prelude.{ℕ, Option, Result, Ok, Err}
+use Rattle.std.specs.Prelude.{ℕ, Bool, true, false, List, Option, Some, Result, Ok, Err}
 use Rattle.trace_values.specs.declared.fault.Reason.{Reason}
 use Rattle.source_events.specs.declared.event.Event.{Event}
 use Rattle.source_events.specs.declared.event.What.{What}
@@ -7,15 +7,23 @@ use Rattle.source_events.specs.declared.event.What.TheVariants.{Locked, Packet a
 use Rattle.source_events.specs.declared.packet.Packet.{Packet}
 use Rattle.source_events.specs.Fitting.{PacketFits, WhatFits}
 use Rattle.stretch_readings.specs.declared.heard.Heard.{Heard}
-use Rattle.stretch_readings.specs.declared.heard.Heard.TheVariants.{Read, Broken}
+use Rattle.stretch_readings.specs.declared.heard.Heard.TheVariants.{Read, Broken, Guessed, Misread}
 
--- what an event is in a strict report, or the reason of its fault
+-- What an event is in a strict report, or the reason of its fault; of a guess, what it is there if it is right.
 abbrev pub as_strict : What (Heard Packet) → Result (What Packet) Reason
 as_strict (Locked skipped) = Ok (Locked skipped)
 as_strict (Said (Read packet)) = Ok (Said packet)
 as_strict (Said (Broken reason)) = Err reason
+as_strict (Said (Guessed packet)) = Ok (Said packet)
+as_strict (Said (Misread reason)) = Err reason
 as_strict (Raw bytes) = Ok (Raw bytes)
 as_strict (Trigger byte) = Ok (Trigger byte)
+
+-- it is a guess
+abbrev pub is_guess : What (Heard Packet) → Bool
+is_guess (Said (Guessed packet)) = true
+is_guess (Said (Misread reason)) = true
+is_guess what = false
 
 -- the event there
 abbrev pub as_event : Event (Heard Packet) → What Packet → Event Packet
@@ -28,3 +36,16 @@ StrictFits (Err reason) source = Unit {0}
 
 abbrev pub HeardFits : Event (Heard Packet) → Type 0
 HeardFits e = StrictFits (as_strict e.what) e.source
+
+-- a packet of this source that was read, which ends in this half of the byte here
+abbrev pub read_event : ℕ → ℕ → ℕ → Packet → Event (Heard Packet)
+read_event source at half packet =
+    record { at = at; half = half; source = Some source; what = Said (Read packet) }
+
+-- bytes of this source that are not read, which end here
+abbrev pub raw_event : ℕ → ℕ → List ℕ → Event (Heard Packet)
+raw_event source at bytes = record { at = at; half = 0; source = Some source; what = Raw bytes }
+
+-- a byte of the trigger source, which is here
+abbrev pub trigger_event : ℕ → ℕ → ℕ → Event (Heard Packet)
+trigger_event source at byte = record { at = at; half = 0; source = Some source; what = Trigger byte }

@@ -1,5 +1,8 @@
 pub mod Port
+pub mod Units
 pub mod Source
 pub mod Hearing
 pub mod Run
-pub mod AtOnce
+pub mod Found
+pub mod Guess
+pub mod Rows

@@ -1,6 +1,6 @@
 -- What a recovering port keeps (CoreSight Architecture Specification, Arm IHI 0029E (version 3.0), chapter 'Trace
 -- Formatter', its section on frames; how it goes on after a fault is this project's profile).
-use Rattle.std.specs.Prelude.{◌≡◌, ℕ, ◌+◌, List, [], ◌∷◌, ◌++◌, map, Bool, true}
+use Rattle.std.specs.Prelude.{◌≡◌, ℕ, ◌+◌, List, [], ◌∷◌, ◌++◌, map, Bool, true, Option}
 use Rattle.std.specs.List.{sum_by}
 use Rattle.trace_values.specs.Placed.{Placed, byte_at, placed_from}
 use Rattle.trace_values.specs.Stream.{Stream}
@@ -8,8 +8,10 @@ use Rattle.trace_values.specs.Moded.{stream_in}
 use Rattle.frame_grammar.specs.Port.{PortItem, Full, start, rule}
 use Rattle.port_sync.specs.Hunting.{pattern}
 use Rattle.deformatter.specs.Block as block
-use Rattle.deformatter.specs.Block.{FedAs}
+use Rattle.deformatter.specs.Block.{FedAs, FedFrame}
 use Rattle.deformatter.specs.Deformatter as deformatter
+use Rattle.deformatter.specs.Frames as frames
+use Rattle.deformatter.specs.Frames.{GrowsByFrame}
 use Rattle.deformatter.specs.Growth.{PortGrows}
 use Rattle.deformatter.specs.Reading.{port_stream}
 use Rattle.deformatter.specs.Resume.{again}
@@ -74,3 +76,20 @@ pub record Answers (r : Stretches) (at byte : ℕ) (step : PortStep) : Type 0 wh
 abbrev pub IsFed : Stretches → ℕ → List ℕ → PortStep → Type 0
 IsFed r at bytes step =
     FedAs (block.Answers r.now.hunts Quiet) (λ u a byte. Answers (with_units r u) a byte step) r.now.units at bytes
+
+-- the present stretch reads, and nothing of a frame or a synchronisation is there
+abbrev pub IsBetween : RecoveringPort → Type 0
+IsBetween p = frames.IsBetween p.port
+
+-- the ID in force
+abbrev pub id_of : RecoveringPort → Option ℕ
+id_of p = deformatter.id_of p.port
+
+-- A whole frame of the bytes f, with so many half synchronisations between its halfwords, came after this ID as these
+-- bytes from this offset on: they are the present stretch's, whose reading grew by the frame with the last of them.
+pub record PassesFrame (r : Stretches) (at : ℕ) (bytes : List ℕ) (f : List Placed) (halves : ℕ) (id : Option ℕ)
+    : Type 0 where
+  pub list : with_bytes r at bytes ≡ with_units r (r.now.units ++ placed_from at bytes)
+  pub grows : GrowsByFrame (port_stream r.now.hunts r.now.units)
+      (port_stream r.now.hunts (r.now.units ++ placed_from at bytes)) (placed_from at bytes) f halves id
+  pub fed : FedFrame r.now.hunts r.now.units at bytes

@@ -1,5 +1,5 @@
 -- A run of a source's bytes.
-use Rattle.std.specs.Prelude.{◌≡◌, ℕ, ◌+◌, ◌*◌, ◌≤◌, List, ◌++◌, length, map, flat_map, Some}
+use Rattle.std.specs.Prelude.{◌≡◌, ℕ, ◌+◌, ◌*◌, ◌≤◌, List, ◌++◌, length, drop, take, map, flat_map, Some}
 use Rattle.trace_values.specs.declared.cell.Cell.{Cell}
 use Rattle.trace_values.specs.Placed.{Place, Placed}
 use Rattle.trace_values.specs.Stream.{Said}
@@ -13,6 +13,10 @@ use Rattle.stretch_readings.specs.declared.heard.Heard.{Heard}
 use Rattle.stretch_readings.specs.Stretches.{One, Stretches, fed_from, from_fault}
 use Rattle.recovering_machines.specs.Source.{Stands, heard_by, kind_of, reads_of, total_of}
 use Rattle.recovering_machines.specs.declared.source.RecoveringSource.{RecoveringSource}
+
+-- its cells from one index up to another
+abbrev pub between : ℕ → ℕ → List Cell → List Cell
+between from to cells = drop from (take to cells)
 
 -- the units of its cells
 abbrev pub units_in : SourceKind → List Cell → List Placed

@@ -1,5 +1,5 @@
 -- What a recovering source keeps (how it goes on after a fault is this project's profile).
-use Rattle.std.specs.Prelude.{◌≡◌, ℕ, ◌+◌, List, ◌++◌, map, Bool}
+use Rattle.std.specs.Prelude.{◌≡◌, ℕ, ◌+◌, List, ◌++◌, map, Bool, None, true}
 use Rattle.std.specs.List.{sum_by}
 use Rattle.trace_values.specs.Placed.{Placed}
 use Rattle.trace_values.specs.Stream.{Stream, Grows}
@@ -12,6 +12,7 @@ use Rattle.source_machine.specs.declared.machine.SourceMachine.{SourceMachine}
 use Rattle.stretch_readings.specs.declared.heard.Heard.{Heard}
 use Rattle.stretch_readings.specs.Stretches.{One, Stretches, fed_from, heard_of, from_fault, lost_in}
 use Rattle.stretch_readings.specs.Steps.{raised}
+use Rattle.recovering_machines.specs.Units.{AreWhole}
 use Rattle.recovering_machines.specs.declared.source.RecoveringSource.{RecoveringSource}
 
 -- what its units read as in a stretch
@@ -28,10 +29,12 @@ pub record Keeps (m : SourceMachine) (past count : ℕ) (r : Stretches) : Type 0
   pub past_is : past ≡ sum_by (lost_in (units.reads_on m) from_fault) r.past
   pub count_is : count ≡ r.now.count
 
--- It stands for these stretches: its machine does, and it knows whether the last of them hunts.
+-- It stands for these stretches: its machine does, and it knows whether the last of them hunts, and whether that one
+-- began with a whole byte.
 pub record Stands (s : RecoveringSource) (r : Stretches) : Type 0 where
   pub keeps : Keeps s.machine s.past s.count r
   pub hunts : s.hunts ≡ r.now.hunts
+  pub whole : s.whole ≡ true → AreWhole (kind_of s) r.now.units
 
 -- what they read as
 abbrev pub heard_by : RecoveringSource → Stretches → Stream (Heard Packet)
@@ -42,12 +45,13 @@ abbrev pub with_byte : RecoveringSource → Stretches → ℕ → ℕ → Stretc
 with_byte s r at byte = fed_from (reads_of s) from_fault r (map One (units.units_at (kind_of s) at byte))
 
 -- The answer to a byte: with the byte's units, up to a fault's, the reading of the present stretch grew by this step,
--- whose lock has that one's count besides.
+-- whose lock has that one's count besides. Before the last of these units there is no fault.
 pub record Answers (s : RecoveringSource) (r : Stretches) (at byte : ℕ) (step : Step Packet) : Type 0 where
   pub own : Step Packet
   pub is : step ≡ raised r.now.count own
   pub grows : Grows (reads_of s r.now.hunts r.now.units)
       (reads_of s r.now.hunts (r.now.units ++ units.taken_on (kind_of s) at byte own)) at own
+  pub sound : (reads_of s r.now.hunts (r.now.units ++ units.before_on (kind_of s) at byte own)).fault ≡ None
 
 -- how many units it holds and skipped
 abbrev pub held_of : RecoveringSource → ℕ

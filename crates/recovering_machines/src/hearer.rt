@@ -1,13 +1,23 @@
 //! What takes what recovering sources say.
 
-ghost use Rattle.std.specs.Prelude.{◌+◌, ◌<◌, ◌≤◌, ◌++◌, ◌∷◌, [], ℕ, List};
+ghost use Rattle.std.specs.Prelude.{◌≡◌, ◌↔◌, ◌+◌, ◌<◌, ◌≤◌, ◌++◌, ◌∷◌, [], ℕ, List, Some, length, IsTrue};
 ghost use Rattle.source_events.specs.declared.event.Event.{Event};
 ghost use Rattle.source_events.specs.declared.packet.Packet.{Packet};
+ghost use Rattle.source_events.specs.declared.packet.Packet.TheVariants.{Itm, Stp};
+ghost use Rattle.source_events.specs.declared.plan.SourceKind.{SourceKind};
+ghost use Rattle.source_machine.specs.Finding.{ToldFits, told_by};
+ghost use Rattle.source_machine.specs.declared.packets.Told.TheVariants.{Itm as SaysItm, Stp as SaysStp};
+ghost use Rattle.itm_grammar.specs.declared.packet.ItmPacket.{ItmPacket};
+ghost use Rattle.stp_grammar.specs.Said.{said_item};
+ghost use Rattle.stp_grammar.specs.declared.said.Said.{Said};
+ghost use Rattle.stp_grammar.specs.declared.item.StpItem.{StpItem};
 ghost use Rattle.stretch_readings.specs.declared.heard.Heard.{Heard};
-ghost use Rattle.recovering_machines.specs.Hearing.{HeardFits};
+ghost use Rattle.recovering_machines.specs.Hearing.{HeardFits, raw_event, read_event, trigger_event};
 
-use source_events::{Event, Packet};
+use source_events::{Event, Packet, SourceKind};
+use source_machine::Told;
 use stretch_readings::Heard;
+use trace_values::SourceId;
 
 /// What takes the events of a recovering report, one after the other.
 pub trait Hearer {
@@ -18,12 +28,52 @@ pub trait Hearer {
     ghost gets: { (Self × Self.To) → List (Event (Heard Packet)) → (Self × Self.To) → Type 0 };
     // how many more it has room for
     ghost room: { (Self × Self.To) → ℕ };
+    // of which sources of which kind it may be given packets as what they say
+    ghost takes: { Self → ℕ → SourceKind → Type 0 };
 
     /// Takes the next event.
     fn hear(&mut self, to: &mut Self::To, event: Event<Heard<Packet>>)
         requires fits { HeardFits event }
         requires room { 0 < room (self.old, to.old) }
         ensures gets { gets (self.old, to.old) (event ∷ []) (self.new, to.new) }
+        ensures room { room (self.old, to.old) ≤ room (self.new, to.new) + 1 };
+
+    /// How many more events it has room for.
+    fn events_left(&self, to: &Self::To) -> usize
+        ensures { result ≡ room (self.now, to.now) };
+
+    /// Packets of this source, which is of this kind, may be given as what they say. It is asked before a packet is
+    /// read: so what is read goes straight into what is made of it.
+    fn takes_told(&self, source: SourceId, kind: SourceKind) -> bool
+        ensures { IsTrue result ↔ takes self.now source kind };
+
+    /// Takes the next event, which is what a packet of this source says. It ends in this half of the byte at this
+    /// offset.
+    ///
+    /// It is what `hear` makes of that event, which need not be in memory; so are those below.
+    fn hear_told(&mut self, to: &mut Self::To, at: u64, half: u8, source: SourceId, told: Told)
+        requires fits { ToldFits told }
+        requires own { takes self.old source (told_by told) }
+        requires room { 0 < room (self.old, to.old) }
+        ensures itm { (packet : ItmPacket) → told ≡ SaysItm packet →
+            gets (self.old, to.old) (read_event source at half (Itm packet) ∷ []) (self.new, to.new) }
+        ensures stp { (said : Said) (item : StpItem) → told ≡ SaysStp said → said_item said ≡ Some item →
+            gets (self.old, to.old) (read_event source at half (Stp item) ∷ []) (self.new, to.new) }
+        ensures room { room (self.old, to.old) ≤ room (self.new, to.new) + 1 };
+
+    /// Takes the next event, which is a run of this source, 1 to 15 bytes that are not read. The last of them is at
+    /// this offset.
+    fn hear_raw(&mut self, to: &mut Self::To, at: u64, source: SourceId, bytes: &[u8])
+        requires some { 0 < length bytes.now }
+        requires few { length bytes.now ≤ 15 }
+        requires room { 0 < room (self.old, to.old) }
+        ensures gets { gets (self.old, to.old) (raw_event source at bytes.now ∷ []) (self.new, to.new) }
+        ensures room { room (self.old, to.old) ≤ room (self.new, to.new) + 1 };
+
+    /// Takes the next event, which is a byte of the trigger source. It is at this offset.
+    fn hear_trigger(&mut self, to: &mut Self::To, at: u64, source: SourceId, byte: u8)
+        requires room { 0 < room (self.old, to.old) }
+        ensures gets { gets (self.old, to.old) (trigger_event source at byte ∷ []) (self.new, to.new) }
         ensures room { room (self.old, to.old) ≤ room (self.new, to.new) + 1 };
 
     // given nothing it is as before

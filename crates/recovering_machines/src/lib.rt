@@ -1,13 +1,18 @@
 //! The machines of a port and of a mapped source that hunt again after a fault, the source's also after a cut.
 #![tactic(auto)]
 
-mod at_once;
+mod found;
+mod guess;
 mod hearer;
+mod near;
 mod port;
+pub mod rows;
 mod run;
 mod source;
 
+pub use guess::{Answer, Guess};
 pub use hearer::Hearer;
+pub use near::feed_near;
 pub use port::RecoveringPort;
 pub use run::feed_run;
 pub use source::RecoveringSource;

@@ -10,7 +10,7 @@ ghost use Rattle.trace_values.specs.declared.limits.TheConstants.{COUNT_ROOM, PA
 
 use arrayvec::ArrayVec;
 use deformatter::{Deformatter, PortStep, Taken};
-use trace_values::Cell;
+use trace_values::{Cell, SourceId};
 
 /// Reads the bytes of a port with a formatter. After a fault it hunts again, from the first byte of the halfword or
 /// synchronisation in which the fault is. It keeps no byte for that, and it is live always.
@@ -31,14 +31,17 @@ pub struct RecoveringPort {
 }
 
 impl RecoveringPort {
-    ghost use Rattle.std.specs.Prelude.{◌+◌, ◌*◌, ◌<◌, ◌≤◌, ◌++◌, [], length, take};
+    ghost use Rattle.std.specs.Prelude.{◌+◌, ◌*◌, ◌<◌, ◌≤◌, ◌++◌, [], length, take, ℕ, List, IsTrue};
     ghost use Rattle.stretch_readings.specs.Stretches.{before, lost_in, skipped_in};
     ghost use Rattle.std.specs.List.{sum_by};
-    ghost use Rattle.trace_values.specs.Placed.{placed_from};
+    ghost use Rattle.trace_values.specs.Placed.{Placed, placed_from, units_of};
+    ghost use Rattle.frame_grammar.specs.Frame.{id_after};
+    ghost use Rattle.frame_grammar.specs.Port.{Frame, Spells};
     ghost use Rattle.deformatter.specs.Reading.{cells_in, port_stream};
     ghost use Rattle.deformatter.specs.declared.step.PortStep.TheVariants.{Quiet};
     ghost use Rattle.stretch_readings.specs.Stretches.{Stretches};
-    ghost use Rattle.recovering_machines.specs.Port.{IsFed, Stands, from_halfword, items_by, total_of, with_bytes};
+    ghost use Rattle.recovering_machines.specs.Port.{IsBetween, IsFed, PassesFrame, Stands, from_halfword, id_of};
+    ghost use Rattle.recovering_machines.specs.Port.{items_by, total_of, with_bytes};
 
     /// One of bytes that begin with a frame or a synchronisation, before the first of them.
     pub fn aligned() -> RecoveringPort
@@ -113,6 +116,37 @@ impl RecoveringPort {
             },
             step => Taken { bytes, step },
         }
+    }
+
+    /// Only where nothing of a frame or a synchronisation is there, and the present stretch reads.
+    #[inline]
+    pub fn is_between(&self) -> bool
+        ensures { IsTrue result → IsBetween self.now }
+    {
+        self.port.is_between()
+    }
+
+    /// The ID in force.
+    #[inline]
+    pub fn id(&self) -> Option<SourceId>
+        ensures { result ≡ id_of self.now }
+    {
+        self.port.id()
+    }
+
+    /// Passes over a whole frame of the present stretch, with half synchronisations between its halfwords or without,
+    /// whose bytes the caller takes: `after` is the ID after it. Nothing of a frame or a synchronisation may be there.
+    #[inline]
+    pub fn pass_frame(&mut self, after: Option<SourceId>)
+        requires between { IsBetween self.old }
+        ensures list { (r : Stretches) (f : List Placed) (halves at : ℕ) (bytes : List ℕ) → Stands self.old r →
+            Spells (Frame f halves) (placed_from at bytes) → after ≡ id_after (units_of f) (id_of self.old) →
+            Stands self.new (with_bytes r at bytes) }
+        ensures passes { (r : Stretches) (f : List Placed) (halves at : ℕ) (bytes : List ℕ) → Stands self.old r →
+            Spells (Frame f halves) (placed_from at bytes) → PassesFrame r at bytes f halves (id_of self.old) }
+        ensures few { total_of self.new ≡ total_of self.old }
+    {
+        self.port.pass_frame(after);
     }
 
     /// The present stretch hunts: the first one where it was made to hunt, and each further one.

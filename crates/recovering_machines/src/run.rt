@@ -1,13 +1,12 @@
 //! A run of a recovering source.
 
-ghost use Rattle.std.specs.Prelude.{◌≡◌, ◌+◌, ◌*◌, ◌<◌, ◌≤◌, IfSome, length, take, Some};
+ghost use Rattle.std.specs.Prelude.{◌≡◌, ◌+◌, ◌-◌, ◌*◌, ◌<◌, ◌≤◌, IfSome, length, Some};
 ghost use Rattle.source_events.specs.Fitting.{PacketFits};
 ghost use Rattle.source_events.specs.Merge.{told};
 ghost use Rattle.source_events.specs.Report.{lifted};
-ghost use Rattle.source_events.specs.Runs.{bytes_of};
 ghost use Rattle.stretch_readings.specs.Steps.{said_by};
-ghost use Rattle.recovering_machines.specs.AtOnce.{said_at};
-ghost use Rattle.recovering_machines.specs.Run.{TakesRun};
+ghost use Rattle.recovering_machines.specs.Found.{ended, heard_in};
+ghost use Rattle.recovering_machines.specs.Run.{TakesRun, between};
 ghost use Rattle.recovering_machines.specs.Source.{total_of};
 ghost use Rattle.trace_values.specs.Stream.{StepFits};
 ghost use Rattle.trace_values.specs.declared.limits.TheConstants.{COUNT_ROOM};
@@ -15,8 +14,9 @@ ghost use Rattle.trace_values.specs.declared.limits.TheConstants.{COUNT_ROOM};
 use crate::hearer::Hearer;
 use crate::source::RecoveringSource;
 use source_events::{Event, Packet, What};
+use source_merge::Run;
 use stretch_readings::Heard;
-use trace_values::{Cell, SourceId, Step};
+use trace_values::{SourceId, Step};
 
 /// What a source says at this half of the byte at this offset.
 fn event_at(id: SourceId, at: u64, half: u8, what: What<Heard<Packet>>) -> Event<Heard<Packet>>
@@ -68,7 +68,8 @@ fn hear_packet<V: Hearer>(
 )
     requires fits { IfSome item PacketFits }
     requires room { 1 ≤ V.room (out.old, to.old) }
-    ensures received { V.gets (out.old, to.old) (told (Some id) (lifted (said_at half at item))) (out.new, to.new) }
+    ensures received { V.gets (out.old, to.old) (told (Some id) (lifted (heard_in (ended half at item))))
+        (out.new, to.new) }
     ensures room { V.room (out.old, to.old) ≤ V.room (out.new, to.new) + 1 }
 {
     if let Some(packet) = item {
@@ -79,51 +80,74 @@ fn hear_packet<V: Hearer>(
     }
 }
 
-/// Takes the front of a run: bytes up to the one in which a packet ends, or one byte where nothing is known of them.
-/// Gives its events, and answers how many bytes it has.
-fn take_front<V: Hearer>(
+/// Takes bytes of a run of this source from this index on, of which no packet was found: those up to the one in which a
+/// packet ends, or one byte where nothing is known of them. Gives their events, and answers the index after them.
+#[inline(never)]
+fn take_slowly<R: Run, V: Hearer>(
     source: &mut RecoveringSource,
     id: SourceId,
-    cells: &[Cell],
-    bytes: &[u8],
+    run: &R,
+    from: usize,
     out: &mut V,
     to: &mut V::To,
 ) -> usize
-    requires some { 0 < length cells.now }
-    requires bytes { bytes.now ≡ bytes_of cells.now }
-    requires few { total_of source.old + 4 * length cells.now ≤ COUNT_ROOM }
-    requires room { 2 * length cells.now ≤ V.room (out.old, to.old) }
-    ensures count { (0 < result) × (result ≤ length cells.now) }
-    ensures takes { TakesRun V.gets V.room id (take result cells.now) source.old source.new
+    requires from { from < length (R.cells run.now) }
+    requires few { total_of source.old + 4 * (length (R.cells run.now) - from) ≤ COUNT_ROOM }
+    requires room { 2 * (length (R.cells run.now) - from) ≤ V.room (out.old, to.old) }
+    ensures within { (from < result) × (result ≤ length (R.cells run.now)) }
+    ensures takes { TakesRun V.gets V.room id (between from result (R.cells run.now)) source.old source.new
         (out.old, to.old) (out.new, to.new) }
 {
+    let bytes = &run.ahead()[from..run.len()];
     if let Some(taken) = source.take(bytes) {
-        let at = cells[taken.bytes - 1].at;
-        hear_packet(id, at, taken.half, taken.item, out, to);
-        return taken.bytes;
+        let end = from + taken.bytes;
+        hear_packet(id, run.cell(end - 1).at, taken.half, taken.item, out, to);
+        return end;
     }
-    let cell = cells[0];
+    let cell = run.cell(from);
     let step = source.feed(cell.at, cell.byte);
     hear_step(id, cell.at, step, out, to);
-    1
+    from + 1
 }
 
-/// Takes a run of this source, which has these bytes, and gives its events: at most two for each byte.
-pub fn feed_run<V: Hearer>(
+/// Takes the packets of a run that are found from this index on, and then bytes of which none was. Gives their events,
+/// and answers the index after them.
+fn take_part<R: Run, V: Hearer>(
     source: &mut RecoveringSource,
     id: SourceId,
-    cells: &[Cell],
-    bytes: &[u8],
+    run: &R,
+    from: usize,
+    out: &mut V,
+    to: &mut V::To,
+) -> usize
+    requires from { from < length (R.cells run.now) }
+    requires few { total_of source.old + 4 * (length (R.cells run.now) - from) ≤ COUNT_ROOM }
+    requires room { 2 * (length (R.cells run.now) - from) ≤ V.room (out.old, to.old) }
+    ensures within { (from < result) × (result ≤ length (R.cells run.now)) }
+    ensures takes { TakesRun V.gets V.room id (between from result (R.cells run.now)) source.old source.new
+        (out.old, to.old) (out.new, to.new) }
+{
+    let found = source.take_packets(id, run, from, out, to);
+    if found < run.len() {
+        return take_slowly(source, id, run, found, out, to);
+    }
+    found
+}
+
+/// Takes a run of this source, and gives its events: at most two for each byte.
+pub fn feed_run<R: Run, V: Hearer>(
+    source: &mut RecoveringSource,
+    id: SourceId,
+    run: &R,
     out: &mut V,
     to: &mut V::To,
 )
-    requires bytes { bytes.now ≡ bytes_of cells.now }
-    requires few { total_of source.old + 4 * length cells.now ≤ COUNT_ROOM }
-    requires room { 2 * length cells.now ≤ V.room (out.old, to.old) }
-    ensures { TakesRun V.gets V.room id cells.now source.old source.new (out.old, to.old) (out.new, to.new) }
+    requires few { total_of source.old + 4 * length (R.cells run.now) ≤ COUNT_ROOM }
+    requires room { 2 * length (R.cells run.now) ≤ V.room (out.old, to.old) }
+    ensures { TakesRun V.gets V.room id (R.cells run.now) source.old source.new (out.old, to.old) (out.new, to.new) }
 {
     let mut done = 0;
-    while done < cells.len() {
-        done += take_front(source, id, &cells[done..], &bytes[done..], out, to);
+    while done < run.len() {
+        done = take_part(source, id, run, done, out, to);
     }
 }

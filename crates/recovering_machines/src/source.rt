@@ -4,19 +4,23 @@
 //! Packet Protocol', and of the MIPI System Trace Protocol, version 2. Which bytes are faults, and how a reading goes
 //! on after one, is this project's profile.
 
-ghost use Rattle.std.specs.Prelude.{◌≡◌, ◌+◌, ◌≤◌, true};
+ghost use Rattle.std.specs.Prelude.{◌≡◌, ◌+◌, ◌≤◌, ℕ, true};
 ghost use Rattle.stretch_readings.specs.Steps.{raised};
 ghost use Rattle.source_events.specs.Fitting.{PacketFits};
 ghost use Rattle.trace_values.specs.ReadingModes.{packets_hunt};
 ghost use Rattle.trace_values.specs.Stream.{LocksAfter, StepFits};
 ghost use Rattle.source_machine.specs.Machine.{is_live};
+ghost use Rattle.source_machine.specs.Units.{kind_of as kind_on, units_from};
 ghost use Rattle.trace_values.specs.declared.limits.TheConstants.{COUNT_ROOM};
+ghost use Rattle.recovering_machines.specs.Units.{AreWhole};
 
-use crate::at_once::take_bytes;
+use crate::found::{take_bytes, take_found};
+use crate::hearer::Hearer;
 use source_events::{Packet, SourceKind};
 use source_machine::SourceMachine;
+use source_merge::Run;
 use stp_grammar::packet::Order;
-use trace_values::{Machine, PacketsMode, Step, TakenAtOnce};
+use trace_values::{Machine, PacketsMode, SourceId, Step, TakenAtOnce};
 
 /// Reads the bytes of a mapped source. After a fault it hunts again from the fault's byte or nibble on, and after a cut
 /// from the next byte on. It is live always.
@@ -33,6 +37,8 @@ pub struct RecoveringSource {
     count: u64,
     /// The present one hunts.
     hunts: bool,
+    /// The present one began with a whole byte: so packets are found in the bytes of a run.
+    whole: bool,
     ghost live: { is_live machine ≡ true },
 }
 
@@ -43,6 +49,17 @@ fn hunts(packets: PacketsMode) -> bool
     match packets {
         PacketsMode::Hunt => true,
         PacketsMode::Aligned => false,
+    }
+}
+
+/// The units of a byte from this half on are those of a whole byte.
+fn is_whole_from(machine: &SourceMachine, half: u8) -> bool
+    ensures { (at byte : ℕ) → result ≡ true →
+        AreWhole (kind_on machine.now) (units_from (kind_on machine.now) half at byte) }
+{
+    match machine {
+        SourceMachine::Itm(_) => true,
+        SourceMachine::Stp(_) => half == 0,
     }
 }
 
@@ -65,12 +82,13 @@ fn raised(step: Step<Packet>, count: u64, skipped: u64) -> Step<Packet>
 }
 
 impl RecoveringSource {
-    ghost use Rattle.std.specs.Prelude.{◌++◌, ◌*◌, ◌<◌, IfSome, None, length, take};
+    ghost use Rattle.std.specs.Prelude.{◌++◌, ◌-◌, ◌*◌, ◌<◌, IfSome, None, length, take};
     ghost use Rattle.stretch_readings.specs.Stretches.{Stretches, before, from_fault, parted};
     ghost use Rattle.source_machine.specs.Units.{reads_by};
     ghost use Rattle.stretch_readings.specs.Steps.{said_by};
     ghost use Rattle.recovering_machines.specs.Source.{Answers, Stands, heard_by, kind_of, reads_of, total_of};
-    ghost use Rattle.recovering_machines.specs.AtOnce.{TakesCells, said_at};
+    ghost use Rattle.recovering_machines.specs.Found.{TakesCells, ended, heard_in};
+    ghost use Rattle.recovering_machines.specs.Run.{TakesRun, between};
     ghost use Rattle.recovering_machines.specs.Source.{with_byte};
 
     /// One of a source of this kind before its first byte. The order is that of the nibbles of an STP source's numbers.
@@ -85,6 +103,7 @@ impl RecoveringSource {
             past: 0,
             count: 0,
             hunts: hunts(packets),
+            whole: true,
         }
     }
 
@@ -107,6 +126,7 @@ impl RecoveringSource {
             Step::Fault(fault) => {
                 self.past += self.count + self.machine.skipped();
                 self.count = self.machine.held();
+                self.whole = is_whole_from(&self.machine, fault.half);
                 self.machine = self.machine.hunting_from(at, fault.half, byte);
                 self.hunts = true;
                 Step::Fault(fault)
@@ -123,13 +143,42 @@ impl RecoveringSource {
         ensures reads { reads_of self.new ≡ reads_of self.old }
         ensures bytes { IfSome result (λ taken. (0 < taken.bytes) × (taken.bytes ≤ length bytes.now)) }
         ensures takes { IfSome result (λ taken.
-            TakesCells self.old self.new (take taken.bytes bytes.now) (λ at. said_at taken.half at taken.item)) }
+            TakesCells self.old self.new (take taken.bytes bytes.now)
+            (λ at. heard_in (ended taken.half at taken.item))) }
         ensures fits { IfSome result (λ taken. IfSome taken.item PacketFits) }
         ensures few { IfSome result (λ taken. total_of self.new ≤ total_of self.old + 4 * taken.bytes) }
         ensures none { result ≡ None → ((r : Stretches) → Stands self.old r → Stands self.new r)
             × (total_of self.new ≤ total_of self.old) }
     {
-        take_bytes(&mut self.machine, bytes)
+        if self.whole {
+            take_bytes(&mut self.machine, bytes)
+        } else {
+            None
+        }
+    }
+
+    /// Takes packets of a run of this source from this index on, as long as they are found, and gives them. Answers the
+    /// index after them. None is found while the present stretch began in the middle of a byte.
+    #[inline(always)]
+    pub fn take_packets<R: Run, V: Hearer>(
+        &mut self,
+        id: SourceId,
+        run: &R,
+        from: usize,
+        out: &mut V,
+        to: &mut V::To,
+    ) -> usize
+        requires from { from ≤ length (R.cells run.now) }
+        requires room { 2 * (length (R.cells run.now) - from) ≤ V.room (out.old, to.old) }
+        ensures within { (from ≤ result) × (result ≤ length (R.cells run.now)) }
+        ensures takes { TakesRun V.gets V.room id (between from result (R.cells run.now)) self.old self.new
+            (out.old, to.old) (out.new, to.new) }
+    {
+        if self.whole {
+            take_found(&mut self.machine, id, run, from, out, to)
+        } else {
+            from
+        }
     }
 
     /// Cuts the source's list here: what comes is hunted anew with a count of 0, and what is held is skipped.
@@ -146,6 +195,7 @@ impl RecoveringSource {
         self.count = 0;
         self.machine = self.machine.hunting_again();
         self.hunts = true;
+        self.whole = true;
     }
 
     /// The present stretch hunts: the first one where it was made to hunt, and each further one.

@@ -1,11 +1,10 @@
 -- More bytes of the port.
 use Rattle.std.proofs.Common.{◌≡◌, ℕ, ◌+◌, List, [], ◌∷◌, ◌++◌, refl, sym, ◌∙◌, ap, subst}
-use Rattle.std.proofs.Common.{append-nil, append_assoc, arith, drop, get_or, length, map, suc, take, zero, ◌<◌, ◌-◌}
+use Rattle.std.proofs.Common.{append-nil, append_assoc, arith, length, map, take, Some, ◌≤◌}
 use Rattle.std.proofs.lemmas.Grind.{flat_map-append}
-use Rattle.std.proofs.lemmas.List.{length-take-le, map-append, take_more}
+use Rattle.std.proofs.lemmas.List.{length-take-le, map-append, take-take}
 use Rattle.trace_values.specs.declared.cell.Cell.{Cell}
-use Rattle.trace_values.specs.Placed.{Placed, byte_at, placed_from}
-use Rattle.trace_values.proofs.Placing.{placed_from_push}
+use Rattle.trace_values.specs.Placed.{Placed, placed_from}
 use Rattle.trace_values.specs.declared.reading_modes.FramesMode.{FramesMode}
 use Rattle.trace_values.specs.declared.reading_modes.FramesMode.TheVariants.{Bare}
 use Rattle.deformatter.specs.declared.step.PortStep.{PortStep}
@@ -16,7 +15,8 @@ use Rattle.deformatter.specs.PortReading.{bare_cell}
 use Rattle.source_events.specs.declared.event.Event.{Event}
 use Rattle.source_events.specs.declared.packet.Packet.{Packet}
 use Rattle.source_events.specs.declared.plan.Plan.{Plan}
-use Rattle.source_events.specs.Runs.{all_runs, bytes_of, runs_of}
+use Rattle.source_events.specs.Runs.{all_runs, runs_of}
+use Rattle.source_merge.specs.Piece.{cells_from}
 use Rattle.stretch_readings.specs.declared.heard.Heard.{Heard}
 use Rattle.stretch_readings.proofs.StretchLaws.{from_append}
 use Rattle.stretch_readings.specs.Stretches.{One, fed, fed_from, before}
@@ -24,8 +24,11 @@ use Rattle.recovering_machines.specs.Port.{items_by, from_halfword, raised}
 use Rattle.recovery_report.specs.Port.{port_stretches, recovered}
 use Rattle.recovery_report.specs.Report.{Part, Run, Locks, parts_in, report, report_from}
 use Rattle.recovery_report.specs.Words.{AreOf, parts_by, singles}
+use Rattle.recovery_engine.specs.Engine.{Stands, plan_of}
+use Rattle.recovery_engine.specs.Front.{TakesFront}
 use Rattle.recovery_engine.specs.Slots.{StandFor}
 use Rattle.recovery_engine.specs.Taking.{Takes}
+use Rattle.recovery_engine.specs.declared.engine.Recovery.{Recovery}
 use Rattle.recovery_engine.specs.declared.slot.RecoveringSlot.{RecoveringSlot}
 
 -- the stretches of a port with more bytes
@@ -82,53 +85,16 @@ bare_more (b ∷ w) u =
     ∙ ap (λ l. parts_in (recovered Bare u) ++ map Run l) (one_run (bare_cell b)))
     ∙ append_assoc (parts_in (recovered Bare u)) (Run (bare_cell b ∷ []) ∷ []) (singles (map bare_cell w))
 
--- they are all of source 1, and have the bytes' values
+-- they are all of source 1
 pub bare_of : (w : List Placed) → AreOf 1 (map bare_cell w)
 bare_of [] = tt
 bare_of (b ∷ w) = (refl, bare_of w)
 
-pub bare_bytes : (at : ℕ) (bytes : List ℕ) → bytes_of (map bare_cell (placed_from at bytes)) ≡ bytes
-bare_bytes at [] = refl
-bare_bytes at (b ∷ bytes) = ap (λ (l : List ℕ). b ∷ l) (bare_bytes (at + 1) bytes)
-
-pub bare_size : (at : ℕ) (bytes : List ℕ) → length (map bare_cell (placed_from at bytes)) ≡ length bytes
-bare_size at [] = refl
-bare_size at (b ∷ bytes) = ap suc (bare_size (at + 1) bytes)
-
-pub bare_push : (at i : ℕ) (bytes : List ℕ) → i < length bytes →
-    map bare_cell (placed_from at (take (i + 1) bytes))
-    ≡ map bare_cell (placed_from at (take i bytes)) ++ bare_cell (byte_at (at + i) (get_or bytes i 0)) ∷ []
-bare_push at i bytes l =
-    ap (map bare_cell) (ap (placed_from at) (take_more bytes i 0 l)
-    ∙ placed_from_push at (take i bytes) (get_or bytes i 0)
-    ∙ ap (λ (n : ℕ). placed_from at (take i bytes) ++ byte_at (at + n) (get_or bytes i 0) ∷ [])
-    (length-take-le i bytes (omega (arith, l))))
-    ∙ map-append bare_cell (placed_from at (take i bytes)) (byte_at (at + i) (get_or bytes i 0) ∷ [])
-
--- the next of a list, and the slice of it alone
-pub next_map : {A B : Type 0} (f : A → B) (i : ℕ) (xs : List A) → i < length xs →
-    (x : A) × (take (i + 1) xs ≡ take i xs ++ x ∷ []) × (take (i + 1 - i) (drop i (map f xs)) ≡ f x ∷ [])
-next_map f i [] l = absurd (omega (arith, l))
-next_map f zero (x ∷ xs) l = (x, refl, refl)
-next_map f (suc i) (x ∷ xs) l =
-    let r = next_map f i xs (omega (arith, l)) in (
-      r.0,
-      ap (λ (k : ℕ). take k (x ∷ xs)) (let z : suc i + 1 ≡ suc (i + 1) = omega arith in z)
-          ∙ ap (λ ys. x ∷ ys) r.1,
-      ap (λ (k : ℕ). take k (drop i (map f xs))) (let z : suc i + 1 - suc i ≡ i + 1 - i = omega arith in z) ∙ r.2,
-    )
-
-pub next_of : {A : Type 0} (i : ℕ) (xs : List A) → i < length xs →
-    (x : A) × (take (i + 1) xs ≡ take i xs ++ x ∷ []) × (take (i + 1 - i) (drop i xs) ≡ x ∷ [])
-next_of i [] l = absurd (omega (arith, l))
-next_of zero (x ∷ xs) l = (x, refl, refl)
-next_of (suc i) (x ∷ xs) l =
-    let r = next_of i xs (omega (arith, l)) in (
-      r.0,
-      ap (λ (k : ℕ). take k (x ∷ xs)) (let z : suc i + 1 ≡ suc (i + 1) = omega arith in z)
-          ∙ ap (λ ys. x ∷ ys) r.1,
-      ap (λ (k : ℕ). take k (drop i xs)) (let z : suc i + 1 - suc i ≡ i + 1 - i = omega arith in z) ∙ r.2,
-    )
+-- the cells of a piece are theirs
+pub piece_bare : (at : ℕ) (bytes : List ℕ) → cells_from at bytes ≡ map bare_cell (placed_from at bytes)
+piece_bare at [] = refl
+piece_bare at (b ∷ bytes) =
+    ap (λ (l : List Cell). record { at = at; id = Some 1; run = 0; byte = b } ∷ l) (piece_bare (at + 1) bytes)
 
 -- what was taken is what the bytes add
 module _ {S : Type 0} (gets : S → List (Event (Heard Packet)) → S →
@@ -140,3 +106,26 @@ module _ {S : Type 0} (gets : S → List (Event (Heard Packet)) → S →
 
   pub report_more : report plan w ≡ report plan u ++ t.0
   report_more = ap (λ l. report_from plan [] l) e ∙ (t.2 plan (parts_in (recovered plan.frames u)) k).grew
+
+-- what was taken of a front of a piece was taken of the piece
+pub front_of : {S : Type 0} (gets : S → List (Event (Heard Packet)) → S → Type 0) (left : S → ℕ) (at : ℕ)
+    (piece front : List ℕ) (m n : ℕ) (old new : Recovery × S) → m ≤ length piece → front ≡ take m piece →
+    TakesFront gets left at front n old new → TakesFront gets left at piece n old new
+front_of gets left at piece front m n old new within e t =
+    let size : length front ≡ m = ap length e ∙ length-take-le m piece within in
+    let few = t.bytes.1 in
+    let same : take n front ≡ take n piece =
+    ap (take n) e ∙ take-take n m piece (omega (arith, size, few)) in
+    record {
+      bytes = (t.bytes.0, omega (arith, size, few, within));
+      plan = t.plan;
+      count = t.count;
+      list = λ u k. subst (λ (b : List ℕ). Stands new.0 (u ++ placed_from at b)) same (t.list u k);
+      given = (
+        t.given.0,
+        t.given.1,
+        λ u k. subst (λ (b : List ℕ). report (plan_of old.0) (u ++ placed_from at b)
+            ≡ report (plan_of old.0) u ++ t.given.0) same (t.given.2 u k),
+      );
+      room = t.room;
+    }

@@ -3,6 +3,8 @@ pub mod Blocks
 pub mod PortCounts
 pub mod Ending
 pub mod Feeding
+pub mod Frames
 pub mod Growing
 pub mod Owning
 pub mod Parts
+pub mod WholeFrames

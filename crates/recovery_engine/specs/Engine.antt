@@ -1,6 +1,7 @@
 -- What a recovering engine stands for.
-use Rattle.std.specs.Prelude.{◌≡◌, ℕ, List, length}
+use Rattle.std.specs.Prelude.{◌≡◌, ◌≢◌, ℕ, List, length}
 use Rattle.trace_values.specs.Placed.{Placed}
+use Rattle.trace_values.specs.declared.reading_modes.FramesMode.TheVariants.{Bare}
 use Rattle.source_events.specs.declared.plan.Plan.{Plan}
 use Rattle.recovery_report.specs.Port.{recovered}
 use Rattle.recovery_report.specs.Report.{parts_in}
@@ -17,9 +18,9 @@ abbrev pub count_of : Recovery → ℕ
 count_of e = e.count
 
 -- It has read these bytes: its port and its sources stand for what they are in the recovering report, and it has
--- counted what the port's stretches have.
+-- counted what the port's stretches have. With no formatter all that is counted is the bytes.
 pub record Stands (e : Recovery) (u : List Placed) : Type 0 where
   pub port : PortStands e.plan.frames e.port u
   pub sources : StandFor e.plan (parts_in (recovered e.plan.frames u)) e.slots.items
-  pub counted : HasCounted e.totals (recovered e.plan.frames u)
+  pub counted : e.plan.frames ≢ Bare → HasCounted e.totals (recovered e.plan.frames u)
   pub count : e.count ≡ length u

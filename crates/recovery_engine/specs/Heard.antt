@@ -1,9 +1,9 @@
 -- What counters of events have counted.
-use Rattle.std.specs.Prelude.{◌≡◌, ◌≤◌, ℕ, ◌+◌, ◌-◌, List, ◌++◌}
+use Rattle.std.specs.Prelude.{◌≡◌, ◌≤◌, ℕ, ◌-◌, List, ◌++◌}
 use Rattle.trace_values.specs.declared.limits.TheConstants.{COUNT_ROOM}
 use Rattle.source_events.specs.declared.event.Event.{Event}
 use Rattle.source_events.specs.declared.packet.Packet.{Packet}
-use Rattle.source_merge.specs.Counting.{number_of, total_of}
+use Rattle.source_merge.specs.Counting.{number_of}
 use Rattle.stretch_readings.specs.declared.heard.Heard.{Heard}
 use Rattle.recovery_report.specs.Counts.{items_in, faults_in}
 use Rattle.recovery_engine.specs.declared.heard_counts.HeardCounts.{HeardCounts}
@@ -13,9 +13,9 @@ pub record HasHeard (counts : HeardCounts) (es : List (Event (Heard Packet))) : 
   pub items : (id : ℕ) → id ≤ 126 → number_of counts.items id ≡ items_in id es
   pub faults : counts.faults ≡ faults_in es
 
--- how many items and faults it has counted
+-- how many events it has heard
 abbrev pub heard_of : HeardCounts → ℕ
-heard_of counts = total_of counts.items + counts.faults
+heard_of counts = counts.events
 
 -- how many more it counts
 abbrev pub room : HeardCounts × Unit {0} → ℕ

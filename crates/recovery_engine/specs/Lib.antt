@@ -8,4 +8,5 @@ pub mod Heard
 pub mod HeardLaws
 pub mod Ends
 pub mod Engine
+pub mod Front
 pub mod Counted

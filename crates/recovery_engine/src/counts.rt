@@ -4,6 +4,7 @@ ghost use Rattle.std.specs.Prelude.{◌≡◌, ◌+◌, ◌≤◌, length};
 ghost use Rattle.trace_values.specs.declared.limits.TheConstants.{COUNT_ROOM};
 
 use deformatter::PortStep;
+use frame_grammar::frame::FRAME_BYTES;
 use source_counts::SourceCounts;
 use source_events::PortCounts;
 use trace_values::{Cell, SourceId};
@@ -17,15 +18,13 @@ pub struct PortTotals {
 }
 
 impl PortTotals {
-    ghost use Rattle.std.specs.Prelude.{◌*◌, ◌++◌, [], List, map};
-    ghost use Rattle.trace_values.specs.Placed.{Placed};
-    ghost use Rattle.trace_values.specs.declared.reading_modes.FramesMode.TheVariants.{Bare};
-    ghost use Rattle.deformatter.specs.PortReading.{bare_cell};
+    ghost use Rattle.std.specs.Prelude.{[], ℕ, List};
+    ghost use Rattle.frame_grammar.specs.Frame.{cells, id_after};
     ghost use Rattle.trace_values.specs.declared.reading_modes.FramesMode.{FramesMode};
     ghost use Rattle.source_counts.specs.Counts.{bytes_of, unattributed_of};
     ghost use Rattle.recovery_report.specs.Counts.{CountsGrow};
     ghost use Rattle.recovery_report.specs.Port.{PortStretches, frames_of, fulls_of, halves_of, recovered};
-    ghost use Rattle.recovery_engine.specs.Counting.{HasCounted, counted_of};
+    ghost use Rattle.recovery_engine.specs.Counting.{GrowsByFrame, HasCounted, counted_of};
 
     /// Nothing came yet.
     pub fn new() -> PortTotals
@@ -55,17 +54,23 @@ impl PortTotals {
         }
     }
 
-    /// Counts cells, each of which is a frame of its own, as with no formatter.
-    pub fn add_bare(&mut self, cells: &[Cell])
-        requires size { length cells.now ≤ 15 }
-        requires room { counted_of self.old + 16 * length cells.now ≤ COUNT_ROOM }
-        ensures counted { (u w : List Placed) → cells.now ≡ map bare_cell w → HasCounted self.old (recovered Bare u) →
-            HasCounted self.new (recovered Bare (u ++ w)) }
-        ensures more { counted_of self.new ≤ counted_of self.old + 16 * length cells.now }
+    /// Counts a frame by its bytes, with this many half synchronisations between its halfwords. `before` is the ID
+    /// before it, and the answer the ID after it.
+    pub fn add_frame(
+        &mut self,
+        frame: &[u8; FRAME_BYTES],
+        halves: usize,
+        before: Option<SourceId>,
+    ) -> Option<SourceId>
+        requires room { counted_of self.old + FRAME_BYTES + halves ≤ COUNT_ROOM }
+        ensures counted { (old new : PortStretches) (at : List ℕ) →
+            GrowsByFrame old new halves (cells frame.now at before) → HasCounted self.old old →
+            HasCounted self.new new }
+        ensures after { result ≡ id_after frame.now before }
+        ensures more { counted_of self.new ≤ counted_of self.old + FRAME_BYTES + halves }
     {
-        for index in 0..cells.len() {
-            self.add_step(&PortStep::Frame, &cells[index..index + 1]);
-        }
+        self.halves += halves as u64;
+        self.frames.add_frame_bytes(frame, before)
     }
 
     /// How many bytes a source has.

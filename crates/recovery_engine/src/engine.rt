@@ -1,23 +1,42 @@
 //! The reading of a capture that goes on after each fault.
 
-ghost use Rattle.std.specs.Prelude.{◌≡◌, ◌+◌, ◌*◌, ◌<◌, ◌≤◌};
+ghost use Rattle.std.specs.Prelude.{◌≡◌, ◌+◌, ◌*◌, ◌<◌, ◌≤◌, length, take};
 ghost use Rattle.recovering_machines.specs.Port.{total_of};
 ghost use Rattle.recovery_engine.specs.Counting.{counted_of};
 ghost use Rattle.recovery_engine.specs.Slots.{total};
-ghost use Rattle.recovery_engine.specs.declared.engine.TheConstants.{GREATEST_OFFSET};
+ghost use Rattle.recovery_engine.specs.declared.engine.TheConstants.{END_ROOM, GREATEST_OFFSET};
 
-use crate::bare::{BARE_BYTES, bare_source, push_bare};
+use crate::bare::bare_source;
 use crate::counts::PortTotals;
 use crate::ends::{port_end, source_tails};
-use crate::router::{take_each, take_step};
+use crate::router::{take_each, take_step, take_whole};
 use crate::slot::{Slots, slots_of};
 use arrayvec::ArrayVec;
+use frame_grammar::gather::PlacedFrame;
+use frame_runs::place_frame;
 use recovering_machines::{Hearer, RecoveringPort};
 use source_events::{Plan, PortCounts, Tails};
+use source_machine::AHEAD;
+use source_merge::PieceRun;
 use trace_values::{Cell, FramesMode, SourceId};
 
 /// The greatest offset of a byte of a capture.
 pub const GREATEST_OFFSET: u64 = 1 << 36;
+
+/// A piece of at most this many bytes is copied, so that there are others after it.
+const END_ROOM: usize = 96;
+
+/// So many bytes from the front of a piece, with others after them.
+#[inline(always)]
+fn padded(piece: &[u8], count: usize) -> [u8; END_ROOM]
+    requires within { count ≤ length piece.now }
+    requires room { count ≤ END_ROOM }
+    ensures { take count result ≡ take count piece.now }
+{
+    let mut ahead = [0; END_ROOM];
+    ahead[..count].copy_from_slice(&piece[..count]);
+    ahead
+}
 
 /// Reads a capture piece by piece, its port and each mapped source, and gives the events of its recovering report in
 /// order.
@@ -41,17 +60,18 @@ pub struct Recovery {
 }
 
 impl Recovery {
-    ghost use Rattle.std.specs.Prelude.{◌≢◌, ◌++◌, [], List, length, take};
+    ghost use Rattle.std.specs.Prelude.{◌≢◌, [], List};
     ghost use Rattle.trace_values.specs.declared.reading_modes.FramesMode.TheVariants.{Bare};
-    ghost use Rattle.trace_values.specs.Placed.{Placed, placed_from};
-    ghost use Rattle.source_events.specs.declared.event.Event.{Event};
-    ghost use Rattle.source_events.specs.declared.packet.Packet.{Packet};
-    ghost use Rattle.stretch_readings.specs.declared.heard.Heard.{Heard};
-    ghost use Rattle.source_counts.specs.Counts.{bytes_of};
+    ghost use Rattle.trace_values.specs.Placed.{Placed};
+    ghost use Rattle.frame_grammar.specs.declared.frame.TheConstants.{FRAME_BYTES};
+    ghost use Rattle.recovering_machines.specs.Port.{IsBetween};
+    ghost use Rattle.source_counts.specs.Counts.{bytes_of, unattributed_of};
+    ghost use Rattle.source_merge.specs.Piece.{bytes_in};
     ghost use Rattle.recovery_report.specs.Counts.{port_counts_of};
     ghost use Rattle.recovery_report.specs.Port.{frames_of, recovered};
-    ghost use Rattle.recovery_report.specs.Report.{report, tails_of};
+    ghost use Rattle.recovery_report.specs.Report.{tails_of};
     ghost use Rattle.recovery_engine.specs.Engine.{Stands, count_of, plan_of};
+    ghost use Rattle.recovery_engine.specs.Front.{TakesFront, TakesGathered};
 
     /// An engine before the first byte.
     pub fn new(plan: Plan) -> Recovery
@@ -76,7 +96,8 @@ impl Recovery {
 
     /// Takes bytes from the front of a piece, the first of which is at this offset, and gives the events that the
     /// recovering report grows by: a whole frame, or else bytes up to the first one that ends a frame or a
-    /// synchronisation, or is a fault, or to the piece's end. With no formatter it takes at most `BARE_BYTES` bytes.
+    /// synchronisation, or is a fault, or to the piece's end. With no formatter it takes bytes for whose events there is
+    /// room.
     ///
     /// The piece has a byte, and there is room for 30 events.
     pub fn take<V: Hearer>(&mut self, at: u64, piece: &[u8], out: &mut V, to: &mut V::To) -> usize
@@ -84,15 +105,8 @@ impl Recovery {
         requires limit { count_of self.old + length piece.now ≤ GREATEST_OFFSET + 1 }
         requires offsets { at + length piece.now ≤ GREATEST_OFFSET + 1 }
         requires room { 30 ≤ V.room (out.old, to.old) }
-        ensures bytes { (0 < result) × (result ≤ length piece.now) }
-        ensures plan { plan_of self.new ≡ plan_of self.old }
-        ensures count { count_of self.new ≡ count_of self.old + result }
-        ensures list { (u : List Placed) → Stands self.old u →
-            Stands self.new (u ++ placed_from at (take result piece.now)) }
-        ensures given { (given : List (Event (Heard Packet))) × V.gets (out.old, to.old) given (out.new, to.new)
-            × ((u : List Placed) → Stands self.old u → report (plan_of self.old)
-            (u ++ placed_from at (take result piece.now)) ≡ report (plan_of self.old) u ++ given) }
-        ensures room { V.room (out.old, to.old) ≤ V.room (out.new, to.new) + 30 }
+        ensures { TakesFront V.gets V.room at piece.now result
+            (self.old, (out.old, to.old)) (self.new, (out.new, to.new)) }
     {
         match self.plan.frames {
             FramesMode::Bare => self.take_bare(at, piece, out, to),
@@ -107,35 +121,74 @@ impl Recovery {
         requires limit { count_of self.old + length piece.now ≤ GREATEST_OFFSET + 1 }
         requires offsets { at + length piece.now ≤ GREATEST_OFFSET + 1 }
         requires room { 30 ≤ V.room (out.old, to.old) }
-        ensures bytes { (0 < result) × (result ≤ length piece.now) }
-        ensures plan { plan_of self.new ≡ plan_of self.old }
-        ensures count { count_of self.new ≡ count_of self.old + result }
-        ensures list { (u : List Placed) → Stands self.old u →
-            Stands self.new (u ++ placed_from at (take result piece.now)) }
-        ensures given { (given : List (Event (Heard Packet))) × V.gets (out.old, to.old) given (out.new, to.new)
-            × ((u : List Placed) → Stands self.old u → report (plan_of self.old)
-            (u ++ placed_from at (take result piece.now)) ≡ report (plan_of self.old) u ++ given) }
-        ensures room { V.room (out.old, to.old) ≤ V.room (out.new, to.new) + 30 }
+        ensures { TakesFront V.gets V.room at piece.now result
+            (self.old, (out.old, to.old)) (self.new, (out.new, to.new)) }
     {
-        let count = piece.len().min(BARE_BYTES);
-        let bytes = &piece[..count];
-        self.cells.clear();
-        push_bare(at, bytes, &mut self.cells);
-        let cells = self.cells.as_slice();
-        self.totals.add_bare(cells);
-        take_each(
-            self.slots.as_mut_slice(),
-            bare_source(),
-            cells,
-            bytes,
-            out,
-            to,
-        );
-        self.count += count as u64;
-        count
+        if piece.len() > END_ROOM {
+            return self.take_long(at, piece, out, to);
+        }
+        self.take_short(at, piece, out, to)
     }
 
-    /// Takes bytes of a capture in frames.
+    /// Takes bytes of a long piece where they are.
+    #[inline(always)]
+    fn take_long<V: Hearer>(&mut self, at: u64, piece: &[u8], out: &mut V, to: &mut V::To) -> usize
+        requires bare { self.old.plan.frames ≡ Bare }
+        requires some { END_ROOM < length piece.now }
+        requires limit { count_of self.old + length piece.now ≤ GREATEST_OFFSET + 1 }
+        requires offsets { at + length piece.now ≤ GREATEST_OFFSET + 1 }
+        requires room { 30 ≤ V.room (out.old, to.old) }
+        ensures { TakesFront V.gets V.room at piece.now result
+            (self.old, (out.old, to.old)) (self.new, (out.new, to.new)) }
+    {
+        let count = (out.events_left(to) / 2).min(piece.len() - AHEAD);
+        let run = PieceRun {
+            at,
+            count,
+            ahead: piece,
+        };
+        self.take_piece(&run, out, to)
+    }
+
+    /// Takes bytes of a short piece, which are copied.
+    #[inline(never)]
+    fn take_short<V: Hearer>(&mut self, at: u64, piece: &[u8], out: &mut V, to: &mut V::To) -> usize
+        requires bare { self.old.plan.frames ≡ Bare }
+        requires some { 0 < length piece.now }
+        requires limit { count_of self.old + length piece.now ≤ GREATEST_OFFSET + 1 }
+        requires offsets { at + length piece.now ≤ GREATEST_OFFSET + 1 }
+        requires room { 30 ≤ V.room (out.old, to.old) }
+        ensures { TakesFront V.gets V.room at piece.now result
+            (self.old, (out.old, to.old)) (self.new, (out.new, to.new)) }
+    {
+        let most = (out.events_left(to) / 2).min(END_ROOM - AHEAD);
+        let count = most.min(piece.len());
+        let ahead = padded(piece, count);
+        let run = PieceRun {
+            at,
+            count,
+            ahead: &ahead,
+        };
+        self.take_piece(&run, out, to)
+    }
+
+    /// Takes this run of source 1 of a capture with no formatter, and answers how many bytes it has.
+    #[inline(always)]
+    fn take_piece<V: Hearer>(&mut self, run: &PieceRun, out: &mut V, to: &mut V::To) -> usize
+        requires bare { self.old.plan.frames ≡ Bare }
+        requires some { 0 < run.now.count }
+        requires limit { count_of self.old + run.now.count ≤ GREATEST_OFFSET + 1 }
+        requires room { 2 * run.now.count ≤ V.room (out.old, to.old) }
+        ensures { TakesFront V.gets V.room run.now.at (bytes_in run.now) result
+            (self.old, (out.old, to.old)) (self.new, (out.new, to.new)) }
+    {
+        take_each(self.slots.as_mut_slice(), bare_source(), run, out, to);
+        self.count += run.count as u64;
+        run.count
+    }
+
+    /// Takes the whole frame that a piece begins with, with half synchronisations between its halfwords or without, or
+    /// else bytes as `take_step` does.
     fn take_framed<V: Hearer>(
         &mut self,
         at: u64,
@@ -148,15 +201,45 @@ impl Recovery {
         requires limit { count_of self.old + length piece.now ≤ GREATEST_OFFSET + 1 }
         requires offsets { at + length piece.now ≤ GREATEST_OFFSET + 1 }
         requires room { 30 ≤ V.room (out.old, to.old) }
-        ensures bytes { (0 < result) × (result ≤ length piece.now) }
-        ensures plan { plan_of self.new ≡ plan_of self.old }
-        ensures count { count_of self.new ≡ count_of self.old + result }
-        ensures list { (u : List Placed) → Stands self.old u →
-            Stands self.new (u ++ placed_from at (take result piece.now)) }
-        ensures given { (given : List (Event (Heard Packet))) × V.gets (out.old, to.old) given (out.new, to.new)
-            × ((u : List Placed) → Stands self.old u → report (plan_of self.old)
-            (u ++ placed_from at (take result piece.now)) ≡ report (plan_of self.old) u ++ given) }
-        ensures room { V.room (out.old, to.old) ≤ V.room (out.new, to.new) + 30 }
+        ensures { TakesFront V.gets V.room at piece.now result
+            (self.old, (out.old, to.old)) (self.new, (out.new, to.new)) }
+    {
+        if self.port.is_between() {
+            if let Some(frame) = place_frame(at, piece) {
+                self.take_gathered(&frame, out, to);
+                return frame.size();
+            }
+        }
+        self.take_step(at, piece, out, to)
+    }
+
+    /// Takes a whole frame.
+    fn take_gathered<V: Hearer>(&mut self, frame: &PlacedFrame, out: &mut V, to: &mut V::To)
+        requires framed { self.old.plan.frames ≢ Bare }
+        requires between { IsBetween self.old.port }
+        requires limit { count_of self.old + (FRAME_BYTES + 2 * frame.now.halves) ≤ GREATEST_OFFSET + 1 }
+        requires offsets { frame.now.at + (FRAME_BYTES + 2 * frame.now.halves) ≤ GREATEST_OFFSET + 1 }
+        requires room { 30 ≤ V.room (out.old, to.old) }
+        ensures { TakesGathered V.gets V.room frame.now
+            (self.old, (out.old, to.old)) (self.new, (out.new, to.new)) }
+    {
+        let before = self.port.id();
+        take_whole(self.slots.as_mut_slice(), frame, &before, out, to);
+        let after = self.totals.add_frame(&frame.bytes, frame.halves, before);
+        self.port.pass_frame(after);
+        self.count += frame.size() as u64;
+    }
+
+    /// Takes bytes of a capture in frames up to the first one that ends a frame or a synchronisation, or is a fault, or
+    /// to the piece's end.
+    fn take_step<V: Hearer>(&mut self, at: u64, piece: &[u8], out: &mut V, to: &mut V::To) -> usize
+        requires framed { self.old.plan.frames ≢ Bare }
+        requires some { 0 < length piece.now }
+        requires limit { count_of self.old + length piece.now ≤ GREATEST_OFFSET + 1 }
+        requires offsets { at + length piece.now ≤ GREATEST_OFFSET + 1 }
+        requires room { 30 ≤ V.room (out.old, to.old) }
+        ensures { TakesFront V.gets V.room at piece.now result
+            (self.old, (out.old, to.old)) (self.new, (out.new, to.new)) }
     {
         self.cells.clear();
         let taken = self.port.feed_block(at, piece, &mut self.cells);
@@ -182,7 +265,21 @@ impl Recovery {
             result ≡ bytes_of id (frames_of (recovered (plan_of self.now).frames u)) }
         ensures few { (u : List Placed) → Stands self.now u → result ≤ 16 * count_of self.now }
     {
-        self.totals.bytes(id)
+        match self.plan.frames {
+            FramesMode::Bare => { if id == bare_source() { self.count } else { 0 } }
+            FramesMode::Hunt | FramesMode::Aligned => self.totals.bytes(id),
+        }
+    }
+
+    /// How many bytes of frames have no source.
+    fn unattributed(&self) -> u64
+        ensures { (u : List Placed) → Stands self.now u →
+            result ≡ unattributed_of (frames_of (recovered (plan_of self.now).frames u)) }
+    {
+        match self.plan.frames {
+            FramesMode::Bare => 0,
+            FramesMode::Hunt | FramesMode::Aligned => self.totals.unattributed(),
+        }
     }
 
     /// How many synchronisations and frames the port has in all its stretches. Half synchronisations inside a frame
@@ -190,7 +287,14 @@ impl Recovery {
     pub fn port_counts(&self) -> PortCounts
         ensures { (u : List Placed) → Stands self.now u → result ≡ port_counts_of (plan_of self.now) u }
     {
-        self.totals.port_counts()
+        match self.plan.frames {
+            FramesMode::Bare => PortCounts {
+                fulls: 0,
+                halves: 0,
+                frames: self.count,
+            },
+            FramesMode::Hunt | FramesMode::Aligned => self.totals.port_counts(),
+        }
     }
 
     /// How the capture ends here: how the last stretch of its port and of each mapped source was read, what all
@@ -204,7 +308,7 @@ impl Recovery {
             mode: port.mode,
             skipped: port.skipped,
             tail: port.tail,
-            unattributed: self.totals.unattributed(),
+            unattributed: self.unattributed(),
             sources: source_tails(&self.plan, self.slots.as_slice()),
         }
     }

@@ -1,21 +1,27 @@
 //! Counts the events of a recovering report.
 
 ghost use Rattle.std.specs.Prelude.{◌≡◌, [], ℕ, ◌+◌, ◌<◌, ◌≤◌, if◌then◌else◌};
+ghost use Rattle.source_merge.specs.Counting.{total_of};
 ghost use Rattle.trace_values.specs.declared.limits.TheConstants.{COUNT_ROOM};
 ghost use Rattle.std.specs.Prelude.{Some};
 ghost use Rattle.source_events.specs.Merge.{is_of};
 
 use recovering_machines::Hearer;
-use source_events::{Event, Packet, What};
+use source_events::{Event, Packet, SourceKind, What};
+use source_machine::Told;
 use source_merge::PerSource;
 use stretch_readings::Heard;
-use trace_values::SourceId;
+use trace_values::{COUNT_ROOM, SourceId};
 
 /// Takes events, and counts the items of each source, and the faults. Notices of locks are neither.
 #[derive(Debug, Drop)]
 pub struct HeardCounts {
     items: PerSource,
     faults: u64,
+    /// How many events came, notices too.
+    events: u64,
+    ghost few: { total_of items + faults ≤ events },
+    ghost limit: { events ≤ COUNT_ROOM },
 }
 
 impl HeardCounts {
@@ -35,6 +41,7 @@ impl HeardCounts {
         HeardCounts {
             items: PerSource::new(),
             faults: 0,
+            events: 0,
         }
     }
 
@@ -53,7 +60,8 @@ impl HeardCounts {
         self.faults
     }
 
-    /// Counts an item of a source; one of the port is none.
+    /// Counts an event that is an item of a source; one of the port is none.
+    #[inline(always)]
     fn add_item(&mut self, source: Option<SourceId>)
         requires room { heard_of self.old < COUNT_ROOM }
         ensures items { (x : ℕ) → number_of self.new.items x ≡
@@ -61,13 +69,26 @@ impl HeardCounts {
         ensures faults { self.new.faults ≡ self.old.faults }
         ensures more { heard_of self.new ≤ heard_of self.old + 1 }
     {
+        self.events += 1;
         if let Some(id) = source {
             self.items.add(id, 1);
         }
     }
+
+    /// Counts an event that is a fault.
+    fn add_fault(&mut self)
+        requires room { heard_of self.old < COUNT_ROOM }
+        ensures items { (x : ℕ) → number_of self.new.items x ≡ number_of self.old.items x }
+        ensures faults { self.new.faults ≡ self.old.faults + 1 }
+        ensures more { heard_of self.new ≤ heard_of self.old + 1 }
+    {
+        self.events += 1;
+        self.faults += 1;
+    }
 }
 
 impl Hearer for HeardCounts {
+    ghost use Rattle.std.specs.Prelude.{⊤};
     ghost use Rattle.recovery_engine.specs.Heard.{gets, room};
     ghost use Rattle.recovery_engine.specs.HeardLaws.{gets_more, gets_none};
 
@@ -77,17 +98,45 @@ impl Hearer for HeardCounts {
 
     ghost room = { room };
 
+    ghost takes = { λ counts source kind. ⊤ };
+
     ghost gets_none = { gets_none };
 
     ghost gets_more = { gets_more };
 
     fn hear(&mut self, _to: &mut (), event: Event<Heard<Packet>>) {
         match event.what {
-            What::Locked(_) => {}
-            What::Packet(Heard::Broken(_)) => self.faults += 1,
+            What::Locked(_) | What::Packet(Heard::Guessed(_)) | What::Packet(Heard::Misread(_)) =>
+                self.events += 1,
+            What::Packet(Heard::Broken(_)) => self.add_fault(),
             What::Packet(Heard::Read(_)) | What::Raw(_) | What::Trigger(_) => {
                 self.add_item(event.source);
             }
         }
+    }
+
+    #[inline(always)]
+    fn events_left(&self, _to: &()) -> usize {
+        (COUNT_ROOM - self.events) as usize
+    }
+
+    #[inline(always)]
+    fn takes_told(&self, _source: SourceId, _kind: SourceKind) -> bool {
+        true
+    }
+
+    #[inline(always)]
+    fn hear_told(&mut self, _to: &mut (), _at: u64, _half: u8, source: SourceId, _told: Told) {
+        self.add_item(Some(source));
+    }
+
+    #[inline(always)]
+    fn hear_raw(&mut self, _to: &mut (), _at: u64, source: SourceId, _bytes: &[u8]) {
+        self.add_item(Some(source));
+    }
+
+    #[inline(always)]
+    fn hear_trigger(&mut self, _to: &mut (), _at: u64, source: SourceId, _byte: u8) {
+        self.add_item(Some(source));
     }
 }

@@ -1,12 +1,15 @@
 //! What a step of the port ends, part by part.
 
-ghost use Rattle.std.specs.Prelude.{◌≡◌, ◌+◌, ◌*◌, ◌<◌, ◌≤◌, ◌∷◌, [], length, map};
+ghost use Rattle.std.specs.Prelude.{◌≡◌, ◌+◌, ◌*◌, ◌^◌, ◌<◌, ◌≤◌, ◌∷◌, [], length, map};
+ghost use Rattle.frame_grammar.specs.Frame.{cells};
+ghost use Rattle.frame_runs.specs.Gathered.{frame_places};
 ghost use Rattle.trace_values.specs.declared.limits.TheConstants.{COUNT_ROOM};
 ghost use Rattle.source_events.specs.Merge.{told};
 ghost use Rattle.source_events.specs.Report.{raw_events, triggers};
-ghost use Rattle.source_events.specs.Runs.{bytes_of, runs_of};
+ghost use Rattle.source_events.specs.Runs.{runs_of};
+ghost use Rattle.source_merge.specs.Routing.{IsRunOf};
 ghost use Rattle.std.specs.Prelude.{Some};
-ghost use Rattle.recovery_report.specs.Report.{Run};
+ghost use Rattle.recovery_report.specs.Report.{Run as RunPart};
 ghost use Rattle.recovery_report.specs.Words.{AreOf, parts_by, singles};
 ghost use Rattle.recovery_engine.specs.Slots.{total};
 ghost use Rattle.recovery_engine.specs.Bare.{raw_each};
@@ -14,8 +17,10 @@ ghost use Rattle.recovery_engine.specs.Taking.{Takes};
 
 use crate::slot::{RecoveringSlot, cut_all, take_own};
 use deformatter::PortStep;
+use frame_grammar::gather::PlacedFrame;
 use recovering_machines::Hearer;
-use source_events::{Event, RunBytes, What, run_length};
+use source_events::{Event, What, run_length};
+use source_merge::{CellRun, Run, SplitFrame};
 use stretch_readings::Heard;
 use trace_values::{Cell, SourceId};
 
@@ -26,101 +31,120 @@ const NULL: u8 = 0;
 const TRIGGER: u8 = 125;
 
 /// Gives each byte of a run of the trigger source.
-fn give_triggers<V: Hearer>(id: SourceId, cells: &[Cell], out: &mut V, to: &mut V::To)
-    requires room { 2 * length cells.now ≤ V.room (out.old, to.old) }
-    ensures given { V.gets (out.old, to.old) (told (Some id) (triggers cells.now)) (out.new, to.new) }
-    ensures room { V.room (out.old, to.old) ≤ V.room (out.new, to.new) + 2 * length cells.now }
+fn give_triggers<R: Run, V: Hearer>(id: SourceId, run: &R, out: &mut V, to: &mut V::To)
+    requires room { 2 * length (R.cells run.now) ≤ V.room (out.old, to.old) }
+    ensures given { V.gets (out.old, to.old) (told (Some id) (triggers (R.cells run.now))) (out.new, to.new) }
+    ensures room { V.room (out.old, to.old) ≤ V.room (out.new, to.new) + 2 * length (R.cells run.now) }
 {
-    for index in 0..cells.len() {
-        let cell = cells[index];
-        let event = Event {
-            at: cell.at,
-            half: 0,
-            source: Some(id),
-            what: What::Trigger(cell.byte),
-        };
-        out.hear(to, event);
+    for index in 0..run.len() {
+        let cell = run.cell(index);
+        out.hear_trigger(to, cell.at, id, cell.byte);
     }
 }
 
 /// Gives a run of a source that is not mapped.
-fn give_raw<V: Hearer>(id: SourceId, cells: &[Cell], out: &mut V, to: &mut V::To)
-    requires some { 0 < length cells.now }
-    requires size { length cells.now ≤ 15 }
-    requires room { 2 * length cells.now ≤ V.room (out.old, to.old) }
-    ensures given { V.gets (out.old, to.old) (told (Some id) (raw_events id cells.now)) (out.new, to.new) }
-    ensures room { V.room (out.old, to.old) ≤ V.room (out.new, to.new) + 2 * length cells.now }
+#[inline(never)]
+fn give_raw<R: Run, V: Hearer>(id: SourceId, run: &R, out: &mut V, to: &mut V::To)
+    requires some { 0 < length (R.cells run.now) }
+    requires size { length (R.cells run.now) ≤ 15 }
+    requires room { 2 * length (R.cells run.now) ≤ V.room (out.old, to.old) }
+    ensures given { V.gets (out.old, to.old) (told (Some id) (raw_events id (R.cells run.now))) (out.new, to.new) }
+    ensures room { V.room (out.old, to.old) ≤ V.room (out.new, to.new) + 2 * length (R.cells run.now) }
 {
     let number = id.number();
     if number == NULL {
         return;
     }
     if number == TRIGGER {
-        give_triggers(id, cells, out, to);
+        give_triggers(id, run, out, to);
         return;
     }
-    let event = Event {
-        at: cells[cells.len() - 1].at,
-        half: 0,
-        source: Some(id),
-        what: What::Raw(RunBytes::of(cells)),
-    };
-    out.hear(to, event);
+    let count = run.len();
+    let at = run.cell(count - 1).at;
+    out.hear_raw(to, at, id, &run.ahead()[..count]);
 }
 
-/// Takes a run of one source, or of none.
-fn take_run<V: Hearer>(slots: &mut [RecoveringSlot], cells: &[Cell], out: &mut V, to: &mut V::To)
-    requires some { 0 < length cells.now }
-    requires size { length cells.now ≤ 15 }
-    requires few { total slots.old + 4 * length cells.now ≤ COUNT_ROOM }
-    requires room { 2 * length cells.now ≤ V.room (out.old, to.old) }
-    ensures takes { Takes V.gets (Run cells.now ∷ [])
-        (slots.old, (out.old, to.old)) (slots.new, (out.new, to.new)) }
-    ensures len { length slots.new ≡ length slots.old }
-    ensures few { total slots.new ≤ total slots.old + 4 * length cells.now }
-    ensures room { V.room (out.old, to.old) ≤ V.room (out.new, to.new) + 2 * length cells.now }
-{
-    let Some(id) = cells[0].id else {
-        return;
-    };
-    let bytes = RunBytes::of(cells);
-    if !take_own(slots, id, cells, bytes.as_slice(), out, to) {
-        give_raw(id, cells, out, to);
-    }
-}
-
-/// Gives each cell of a source that is not mapped as a run of its own.
-fn give_each<V: Hearer>(id: SourceId, cells: &[Cell], out: &mut V, to: &mut V::To)
-    requires room { 2 * length cells.now ≤ V.room (out.old, to.old) }
-    ensures given { V.gets (out.old, to.old) (raw_each id cells.now) (out.new, to.new) }
-    ensures room { V.room (out.old, to.old) ≤ V.room (out.new, to.new) + 2 * length cells.now }
-{
-    for index in 0..cells.len() {
-        give_raw(id, &cells[index..index + 1], out, to);
-    }
-}
-
-/// Takes cells of one source, which have these bytes, and each of which is a run of its own.
-pub fn take_each<V: Hearer>(
+/// Takes a run of this source, or of none.
+pub fn take_run<R: Run, V: Hearer>(
     slots: &mut [RecoveringSlot],
-    id: SourceId,
-    cells: &[Cell],
-    bytes: &[u8],
+    source: &Option<SourceId>,
+    run: &R,
     out: &mut V,
     to: &mut V::To,
 )
-    requires own { AreOf id cells.now }
-    requires bytes { bytes.now ≡ bytes_of cells.now }
-    requires few { total slots.old + 4 * length cells.now ≤ COUNT_ROOM }
-    requires room { 2 * length cells.now ≤ V.room (out.old, to.old) }
-    ensures takes { Takes V.gets (singles cells.now)
+    requires own { IsRunOf source.now (R.cells run.now) }
+    requires few { total slots.old + 4 * length (R.cells run.now) ≤ COUNT_ROOM }
+    requires room { 2 * length (R.cells run.now) ≤ V.room (out.old, to.old) }
+    ensures takes { Takes V.gets (RunPart (R.cells run.now) ∷ [])
         (slots.old, (out.old, to.old)) (slots.new, (out.new, to.new)) }
     ensures len { length slots.new ≡ length slots.old }
-    ensures few { total slots.new ≤ total slots.old + 4 * length cells.now }
-    ensures room { V.room (out.old, to.old) ≤ V.room (out.new, to.new) + 2 * length cells.now }
+    ensures few { total slots.new ≤ total slots.old + 4 * length (R.cells run.now) }
+    ensures room { V.room (out.old, to.old) ≤ V.room (out.new, to.new) + 2 * length (R.cells run.now) }
 {
-    if !take_own(slots, id, cells, bytes, out, to) {
-        give_each(id, cells, out, to);
+    let Some(id) = *source else {
+        return;
+    };
+    if !take_own(slots, id, run, out, to) {
+        give_raw(id, run, out, to);
+    }
+}
+
+/// Takes a whole frame, which comes after this ID, run by run.
+pub fn take_whole<V: Hearer>(
+    slots: &mut [RecoveringSlot],
+    frame: &PlacedFrame,
+    id: &Option<SourceId>,
+    out: &mut V,
+    to: &mut V::To,
+)
+    requires near { frame.now.at + 255 < 2 ^ 64 }
+    requires few { total slots.old + 60 ≤ COUNT_ROOM }
+    requires room { 30 ≤ V.room (out.old, to.old) }
+    ensures takes { Takes V.gets (map RunPart (runs_of (cells frame.now.bytes (frame_places frame.now) id.now)))
+        (slots.old, (out.old, to.old)) (slots.new, (out.new, to.new)) }
+    ensures len { length slots.new ≡ length slots.old }
+    ensures few { total slots.new ≤ total slots.old + 60 }
+    ensures room { V.room (out.old, to.old) ≤ V.room (out.new, to.new) + 30 }
+{
+    let split = SplitFrame::of(frame, id);
+    let mut left = split.runs();
+    while let Some(run) = split.next_run(&mut left) {
+        take_run(slots, &run.source(), &run, out, to);
+    }
+}
+
+/// Gives each byte of a source that is not mapped as a run of its own.
+fn give_each<R: Run, V: Hearer>(id: SourceId, run: &R, out: &mut V, to: &mut V::To)
+    requires room { 2 * length (R.cells run.now) ≤ V.room (out.old, to.old) }
+    ensures given { V.gets (out.old, to.old) (raw_each id (R.cells run.now)) (out.new, to.new) }
+    ensures room { V.room (out.old, to.old) ≤ V.room (out.new, to.new) + 2 * length (R.cells run.now) }
+{
+    for index in 0..run.len() {
+        let only = run.cell(index);
+        let cells = [only];
+        give_raw(id, &CellRun::of(&cells), out, to);
+    }
+}
+
+/// Takes bytes of one source, each of which is a run of its own.
+pub fn take_each<R: Run, V: Hearer>(
+    slots: &mut [RecoveringSlot],
+    id: SourceId,
+    run: &R,
+    out: &mut V,
+    to: &mut V::To,
+)
+    requires own { AreOf id (R.cells run.now) }
+    requires few { total slots.old + 4 * length (R.cells run.now) ≤ COUNT_ROOM }
+    requires room { 2 * length (R.cells run.now) ≤ V.room (out.old, to.old) }
+    ensures takes { Takes V.gets (singles (R.cells run.now))
+        (slots.old, (out.old, to.old)) (slots.new, (out.new, to.new)) }
+    ensures len { length slots.new ≡ length slots.old }
+    ensures few { total slots.new ≤ total slots.old + 4 * length (R.cells run.now) }
+    ensures room { V.room (out.old, to.old) ≤ V.room (out.new, to.new) + 2 * length (R.cells run.now) }
+{
+    if !take_own(slots, id, run, out, to) {
+        give_each(id, run, out, to);
     }
 }
 
@@ -129,7 +153,7 @@ fn take_frame<V: Hearer>(slots: &mut [RecoveringSlot], cells: &[Cell], out: &mut
     requires size { length cells.now ≤ 15 }
     requires few { total slots.old + 4 * length cells.now ≤ COUNT_ROOM }
     requires room { 2 * length cells.now ≤ V.room (out.old, to.old) }
-    ensures takes { Takes V.gets (map Run (runs_of cells.now))
+    ensures takes { Takes V.gets (map RunPart (runs_of cells.now))
         (slots.old, (out.old, to.old)) (slots.new, (out.new, to.new)) }
     ensures len { length slots.new ≡ length slots.old }
     ensures few { total slots.new ≤ total slots.old + 4 * length cells.now }
@@ -139,7 +163,8 @@ fn take_frame<V: Hearer>(slots: &mut [RecoveringSlot], cells: &[Cell], out: &mut
         return;
     }
     let n = run_length(cells);
-    take_run(slots, &cells[..n], out, to);
+    let run = &cells[..n];
+    take_run(slots, &run[0].id, &CellRun::of(run), out, to);
     take_frame(slots, &cells[n..], out, to);
 }
 

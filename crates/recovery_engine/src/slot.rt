@@ -4,7 +4,6 @@ ghost use Rattle.std.specs.Prelude.{◌≡◌, ◌+◌, ◌*◌, ◌≤◌, leng
 ghost use Rattle.trace_values.specs.declared.limits.TheConstants.{COUNT_ROOM};
 ghost use Rattle.std.specs.Prelude.{ℕ};
 ghost use Rattle.arrayvec.specs.ArrayVec.{array_vec_len};
-ghost use Rattle.source_events.specs.Runs.{bytes_of};
 ghost use Rattle.source_events.specs.declared.plan.TheConstants.{MAPPED_SOURCES};
 ghost use Rattle.recovery_engine.specs.Fresh.{AreFresh, IsAdded};
 ghost use Rattle.recovery_engine.specs.Slots.{source_at, total};
@@ -13,8 +12,9 @@ ghost use Rattle.recovery_engine.specs.Taking.{AreCut, TakesOwn};
 use arrayvec::ArrayVec;
 use recovering_machines::{Hearer, RecoveringSource, feed_run};
 use source_events::{MAPPED_SOURCES, Plan, SourceKind};
+use source_merge::Run;
 use stp_grammar::packet::Order;
-use trace_values::{Cell, PacketsMode, SourceId};
+use trace_values::{PacketsMode, SourceId};
 
 /// A mapped source, and what reads its bytes.
 #[derive(Drop)]
@@ -63,35 +63,32 @@ fn add_slots(slots: &mut Slots, kind: SourceKind, ids: &[SourceId], plan: &Plan)
     }
 }
 
-/// Takes a run of the source of this ID, which has these bytes, and gives its events. False where there is no such
-/// source.
-pub fn take_own<V: Hearer>(
+/// Takes a run of the source of this ID, and gives its events. False where there is no such source.
+pub fn take_own<R: Run, V: Hearer>(
     slots: &mut [RecoveringSlot],
     id: SourceId,
-    cells: &[Cell],
-    bytes: &[u8],
+    run: &R,
     out: &mut V,
     to: &mut V::To,
 ) -> bool
-    requires bytes { bytes.now ≡ bytes_of cells.now }
-    requires few { total slots.old + 4 * length cells.now ≤ COUNT_ROOM }
-    requires room { 2 * length cells.now ≤ V.room (out.old, to.old) }
-    ensures own { result ≡ true → TakesOwn V.gets V.room id cells.now
+    requires few { total slots.old + 4 * length (R.cells run.now) ≤ COUNT_ROOM }
+    requires room { 2 * length (R.cells run.now) ≤ V.room (out.old, to.old) }
+    ensures own { result ≡ true → TakesOwn V.gets V.room id (R.cells run.now)
         (slots.old, (out.old, to.old)) (slots.new, (out.new, to.new)) }
     ensures other { result ≡ false →
         (slots.new ≡ slots.old) × (out.new ≡ out.old) × (to.new ≡ to.old) × (source_at slots.old id ≡ None) }
     ensures len { length slots.new ≡ length slots.old }
-    ensures few { total slots.new ≤ total slots.old + 4 * length cells.now }
-    ensures room { V.room (out.old, to.old) ≤ V.room (out.new, to.new) + 2 * length cells.now }
+    ensures few { total slots.new ≤ total slots.old + 4 * length (R.cells run.now) }
+    ensures room { V.room (out.old, to.old) ≤ V.room (out.new, to.new) + 2 * length (R.cells run.now) }
 {
     let Some((slot, rest)) = slots.split_first_mut() else {
         return false;
     };
     if slot.id == id {
-        feed_run(&mut slot.source, id, cells, bytes, out, to);
+        feed_run(&mut slot.source, id, run, out, to);
         return true;
     }
-    take_own(rest, id, cells, bytes, out, to)
+    take_own(rest, id, run, out, to)
 }
 
 /// Cuts the lists of all sources.

@@ -53,7 +53,7 @@ whose (Breaks reason place) = None
 abbrev Heards : Type 0
 Heards = List (What (Heard Packet) × Place)
 
-quiet : (plan : Plan) (kind : SourceKind) (h : Bool) → (reads_by plan.order kind h []).given ≡ []
+pub quiet : (plan : Plan) (kind : SourceKind) (h : Bool) → (reads_by plan.order kind h []).given ≡ []
 quiet plan Itm false = refl
 quiet plan Itm true = refl
 quiet plan Stp false = refl

@@ -47,6 +47,7 @@ use Rattle.recovery_report.specs.Report.{source_tails, tail_by, tail_of}
 use Rattle.recovery_report.proofs.Sounds.{port_sound, port_begins, port_settles}
 use Rattle.recovery_laws.specs.Strict.{EndsAsStrict}
 use Rattle.recovery_laws.proofs.Captures.{before, from_start}
+use Rattle.recovery_laws.proofs.Guessed.{no_guess}
 use Rattle.recovery_laws.proofs.Lists.{hunts, one_stretch, reads, reads_are, units}
 use Rattle.recovery_laws.proofs.Ports.{IsParted, EndsBy, parted}
 use Rattle.recovery_laws.proofs.Sources.{there}
@@ -233,5 +234,6 @@ module _ (plan : Plan) (sound : is_sound plan ≡ true) (lo hi : ℕ) (u : List 
         port_counts = same_counts _ _ _ _ _ _ port.fulls port.halves (ap length port.frames);
         source_counts = λ x.
             same_source _ _ _ _ (ap (bytes_of x) port.frames)
-            (items_as x (report plan u) (sym b.fault ∙ stop) ∙ ap (strict_ends.items_in x) (sym b.events));
+            (items_as x (report plan u) (sym b.fault ∙ stop) (no_guess plan lo hi u rise)
+            ∙ ap (strict_ends.items_in x) (sym b.events));
       }

@@ -11,3 +11,5 @@ pub mod Ordering
 pub mod Placing
 pub mod Parting
 pub mod Only
+pub mod Guessed
+pub mod Led

@@ -1,7 +1,8 @@
 -- Events up to the first fault, of lists put together, and of what a source says.
 use Rattle.std.proofs.Common.{◌≡◌, ℕ, ◌+◌, List, [], ◌∷◌, ◌++◌, map, refl, sym, ◌∙◌, ap, arith}
 use Rattle.std.proofs.Common.{Option, None, Some, Bool, true, false, cond}
-use Rattle.std.specs.Prelude.{◌==◌, ◌&&◌, Result, Ok, Err}
+use Rattle.std.specs.Prelude.{◌==◌, ◌&&◌, ◌||◌, Result, Ok, Err}
+use Rattle.std.specs.List.{list_any}
 use Rattle.std.proofs.lemmas.List.Sums.{sum_by-append}
 use Rattle.trace_values.specs.declared.cell.Cell.{Cell}
 use Rattle.trace_values.specs.declared.fault.Reason.{Reason}
@@ -16,10 +17,10 @@ use Rattle.source_events.specs.Report.{lifted, raw_events, triggers, is_item as 
 use Rattle.source_events.specs.Runs.{bytes_of, last_at}
 use Rattle.source_events.specs.Tails as strict_ends
 use Rattle.stretch_readings.specs.declared.heard.Heard.{Heard}
-use Rattle.stretch_readings.specs.declared.heard.Heard.TheVariants.{Read, Broken}
+use Rattle.stretch_readings.specs.declared.heard.Heard.TheVariants.{Read, Broken, Guessed, Misread}
 use Rattle.stretch_readings.specs.Stretches.{heard, from_fault}
 use Rattle.recovery_report.specs.Counts.{is_item, items_in}
-use Rattle.recovering_machines.specs.Hearing.{as_strict}
+use Rattle.recovering_machines.specs.Hearing.{as_strict, is_guess}
 use Rattle.recovery_laws.specs.Strict.{upto_by, upto, first_by, first_fault}
 
 abbrev pub Found : Type 0
@@ -123,11 +124,11 @@ broken_as source (y ∷ ys) rest (x ∷ xs) f a =
 broken_as source [] rest (x ∷ xs) f a = absurd a
 broken_as source (y ∷ ys) rest [] f a = absurd a
 
--- as many items of a source, where there is no fault
+-- as many items of a source, where there is no fault and no guess
 pub items_as : (x : ℕ) (es : List (Event (Heard Packet))) → first_fault es ≡ None →
-    items_in x es ≡ strict_ends.items_in x (upto es)
-items_as x [] e = refl
-items_as x (y ∷ es) e = by y.what e (λ h. items_as x es h) where
+    list_any (λ e. is_guess e.what) es ≡ false → items_in x es ≡ strict_ends.items_in x (upto es)
+items_as x [] e g = refl
+items_as x (y ∷ es) e g = by y.what e g (λ h k. items_as x es h k) where
   count : (es : List (Event (Heard Packet))) (y : Event (Heard Packet)) →
       items_in x (y ∷ es) ≡ items_in x (y ∷ []) + items_in x es
   count es y = sum_by-append
@@ -139,25 +140,30 @@ items_as x (y ∷ es) e = by y.what e (λ h. items_as x es h) where
       (λ (e : Event Packet). cond (is_of (Some x) e.source && strict_item e.what) 1 0) (y ∷ []) es
 
   by : (what : What (Heard Packet)) → first_by y (as_strict what) (first_fault es) ≡ None →
-      (first_fault es ≡ None → items_in x es ≡ strict_ends.items_in x (upto es)) →
+      (is_guess what || list_any (λ e. is_guess e.what) es) ≡ false →
+      (first_fault es ≡ None → list_any (λ e. is_guess e.what) es ≡ false →
+      items_in x es ≡ strict_ends.items_in x (upto es)) →
       items_in x (record { at = y.at; half = y.half; source = y.source; what = what } ∷ es)
       ≡ strict_ends.items_in x (upto_by y (as_strict what) (upto es))
-  by (Locked n) h more =
+  by (Locked n) h g more =
       count es (record { at = y.at; half = y.half; source = y.source; what = Locked n })
-      ∙ ap (λ k. items_in x (record { at = y.at; half = y.half; source = y.source; what = Locked n } ∷ []) + k) (more h)
+      ∙ ap (λ k. items_in x (record { at = y.at; half = y.half; source = y.source; what = Locked n } ∷ []) + k)
+      (more h g)
       ∙ sym (strict_count (upto es) (record { at = y.at; half = y.half; source = y.source; what = Locked n }))
-  by (Packs (Read p)) h more =
+  by (Packs (Read p)) h g more =
       count es (record { at = y.at; half = y.half; source = y.source; what = Packs (Read p) })
       ∙ ap (λ k. items_in x (record { at = y.at; half = y.half; source = y.source; what = Packs (Read p) } ∷ []) + k)
-      (more h)
+      (more h g)
       ∙ sym (strict_count (upto es) (record { at = y.at; half = y.half; source = y.source; what = Packs p }))
-  by (Packs (Broken r)) h more = cc
-  by (Raw b) h more =
+  by (Packs (Broken r)) h g more = cc
+  by (Packs (Guessed p)) h g more = cc
+  by (Packs (Misread r)) h g more = cc
+  by (Raw b) h g more =
       count es (record { at = y.at; half = y.half; source = y.source; what = Raw b })
-      ∙ ap (λ k. items_in x (record { at = y.at; half = y.half; source = y.source; what = Raw b } ∷ []) + k) (more h)
+      ∙ ap (λ k. items_in x (record { at = y.at; half = y.half; source = y.source; what = Raw b } ∷ []) + k) (more h g)
       ∙ sym (strict_count (upto es) (record { at = y.at; half = y.half; source = y.source; what = Raw b }))
-  by (Trigger b) h more =
+  by (Trigger b) h g more =
       count es (record { at = y.at; half = y.half; source = y.source; what = Trigger b })
       ∙ ap (λ k. items_in x (record { at = y.at; half = y.half; source = y.source; what = Trigger b } ∷ []) + k)
-      (more h)
+      (more h g)
       ∙ sym (strict_count (upto es) (record { at = y.at; half = y.half; source = y.source; what = Trigger b }))

@@ -1,12 +1,16 @@
 //! Laws of recovering reports, over their definitions alone: their order, and what they are beside strict ones.
 
-ghost use Rattle.std.specs.Prelude.{◌≡◌, ℕ, List, None, true};
+ghost use Rattle.std.specs.Prelude.{◌≡◌, ℕ, List, None, true, false};
+ghost use Rattle.std.specs.List.{before_first, list_any};
 ghost use Rattle.trace_values.specs.Placed.{Placed};
 ghost use Rattle.deformatter.specs.PortReading.{port_reading};
 ghost use Rattle.deformatter.specs.Rising.{BytesRise};
 ghost use Rattle.source_events.specs.declared.plan.Plan.{Plan};
 ghost use Rattle.source_events.specs.Plan.{is_sound, sources_by};
 ghost use Rattle.source_events.specs.Report.{stop_in};
+ghost use Rattle.recovering_machines.specs.Hearing.{is_guess};
+ghost use Rattle.recovery_report.specs.Counts.{is_fault};
+ghost use Rattle.recovery_report.specs.Report.{report, report_with, sure_events};
 ghost use Rattle.recovery_laws.specs.Order.{IsOnlyOrder, IsOrdered};
 ghost use Rattle.recovery_laws.specs.Strict.{EndsAsStrict, IsStrictBefore};
 
@@ -24,4 +28,13 @@ pub fn strict_law()
 pub fn order_law()
     ensures ordered { (plan : Plan) (n k : ℕ) (u : List Placed) → BytesRise n k u → IsOrdered plan u }
     ensures only { (plan : Plan) (n k : ℕ) (u : List Placed) → BytesRise n k u → IsOnlyOrder plan u }
+{}
+
+/// Of bytes at rising offsets, the report with guesses is, without them, the report. Before its first fault there is no
+/// guess.
+pub fn guess_law()
+    ensures sure { (plan : Plan) (n k : ℕ) (u : List Placed) → BytesRise n k u →
+        sure_events (report_with true plan u) ≡ report plan u }
+    ensures first { (plan : Plan) (n k : ℕ) (u : List Placed) → BytesRise n k u →
+        list_any (λ e. is_guess e.what) (before_first (λ e. is_fault e.what) (report_with true plan u)) ≡ false }
 {}

@@ -47,10 +47,8 @@ module _ (old new : RecoveringLister) (a b : List ℕ) (e : Event (Heard Packet)
       ∙ ap (λ (l : List ℕ). a ++ l) (sym (append-nil (line_of p before e (as_strict e.what))))
 
   pub event_put : (what : What Packet) → as_strict e.what ≡ Ok what → new.is_faulty ≡ old.is_faulty →
-      strict.gets (old.lister, a) (as_event e what ∷ []) (new.lister, b) →
-      ((clocked seen : List (Event Packet)) → AllStand old.lister.clocks clocked → HasSeen old.lister.filter seen →
-      b ≡ a ++ line_by p clocked seen (as_event e what)) → ListerGets (old, a) (e ∷ []) (new, b)
-  event_put what q kept g line = record {
+      strict.gets (old.lister, a) (as_event e what ∷ []) (new.lister, b) → ListerGets (old, a) (e ∷ []) (new, b)
+  event_put what q kept g = record {
     same = g.asked;
     stands = λ before h. record {
       clocks = subst (λ (l : List (Event Packet)). AllStand new.lister.clocks l) (sym (clocked before (Ok what) q))
@@ -59,7 +57,10 @@ module _ (old new : RecoveringLister) (a b : List ℕ) (e : Event (Heard Packet)
           (g.seen (seen_in before) h.seen);
       faulty = kept ∙ h.faulty ∙ sym (found before (Ok what) q ∙ or-false (has_fault before));
     };
-    text = λ before h. line_is before (Ok what) q (line (clocked_from [] before) (seen_in before) h.clocks h.seen);
+    text = λ before h. line_is before (Ok what) q
+        (g.text (clocked_from [] before) (seen_in before) h.clocks h.seen
+        ∙ ap (λ (l : List ℕ). a ++ l)
+        (append-nil (line_by p (clocked_from [] before) (seen_in before) (as_event e what))));
   }
 
   pub fault_put : (reason : Reason) → as_strict e.what ≡ Err reason → new.is_faulty ≡ true →

@@ -1,5 +1,7 @@
 pub mod Listing
 pub mod Filtered
+pub mod Near
+pub mod Marked
 pub mod Summary
 pub mod LineLaws
 pub mod Lister
@@ -9,3 +11,8 @@ pub mod Feeding
 pub mod Check
 pub mod MeaningLaws
 pub mod Rows
+pub mod PortText
+pub mod PortTextLaws
+pub mod Text
+pub mod Values
+pub mod ValuesLaws

@@ -2,6 +2,7 @@
 use Rattle.std.specs.Prelude.{◌≡◌, ℕ, List, [], ◌++◌}
 use Rattle.source_events.specs.declared.event.Event.{Event}
 use Rattle.source_events.specs.declared.packet.Packet.{Packet}
+use Rattle.source_events.specs.declared.plan.SourceKind.{SourceKind}
 use Rattle.stretch_readings.specs.declared.heard.Heard.{Heard}
 use Rattle.capture_actions.specs.declared.list_plan.ListPlan.{ListPlan}
 use Rattle.capture_actions.specs.Filter.{plan_by, HasSeen}
@@ -30,6 +31,10 @@ pub record ListerGets (old : RecoveringLister × List ℕ) (es : List (Event (He
 
 abbrev pub gets : RecoveringLister × List ℕ → List (Event (Heard Packet)) → RecoveringLister × List ℕ → Type 0
 gets old es new = ListerGets old es new
+
+-- packets of this source, which is of this kind, are listed from their parts
+abbrev pub Lists : RecoveringLister → ℕ → SourceKind → Type 0
+Lists lister source kind = strict.Lists lister.lister source kind
 
 -- how many more events it has room for
 abbrev pub room : RecoveringLister × List ℕ → ℕ

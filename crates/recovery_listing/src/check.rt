@@ -131,7 +131,7 @@ impl Action for RecoveringCheck {
     }
 
     /// Takes the whole piece.
-    fn feed(&mut self, piece: &[u8], _outlet: &mut Outlet) -> Progress {
+    fn feed(&mut self, piece: &[u8], _outlet: &mut Outlet, _notes: &mut Outlet) -> Progress {
         let mut done = 0;
         while done < piece.len() {
             done += self.take(&piece[done..]);

@@ -6,10 +6,12 @@ ghost use Rattle.recovering_machines.specs.Hearing.{as_strict};
 use capture_actions::Lister;
 use item_tap::{Bounds, Choices};
 use recovering_machines::Hearer;
-use source_events::{Event, Packet, Plan, Stop, What};
+use source_events::{Event, Packet, Plan, SourceKind, Stop, What};
+use source_machine::Told;
+use source_merge::Receiver;
 use stretch_readings::Heard;
 use trace_stream::Outlet;
-use trace_values::{Fault, Reason};
+use trace_values::{Fault, Reason, SourceId};
 
 /// Puts the lines of events that are listed, and of all faults.
 #[derive(Drop)]
@@ -20,13 +22,15 @@ pub struct RecoveringLister {
 }
 
 /// What an event is in a strict report, or the reason of its fault.
-fn strictly(what: What<Heard<Packet>>) -> Result<What<Packet>, Reason>
+pub(crate) fn strictly(what: What<Heard<Packet>>) -> Result<What<Packet>, Reason>
     ensures { result ≡ as_strict what }
 {
     match what {
         What::Locked(skipped) => Ok(What::Locked(skipped)),
-        What::Packet(Heard::Read(packet)) => Ok(What::Packet(packet)),
-        What::Packet(Heard::Broken(reason)) => Err(reason),
+        What::Packet(Heard::Read(packet)) | What::Packet(Heard::Guessed(packet)) => {
+            Ok(What::Packet(packet))
+        }
+        What::Packet(Heard::Broken(reason)) | What::Packet(Heard::Misread(reason)) => Err(reason),
         What::Raw(bytes) => Ok(What::Raw(bytes)),
         What::Trigger(byte) => Ok(What::Trigger(byte)),
     }
@@ -63,7 +67,7 @@ impl RecoveringLister {
 
 /// An event goes to the outlet as its line, if it is listed. Neither the choices nor the window are asked of a fault.
 impl Hearer for RecoveringLister {
-    ghost use Rattle.recovery_listing.specs.Lister.{gets, room};
+    ghost use Rattle.recovery_listing.specs.Lister.{Lists, gets, room};
     ghost use Rattle.recovery_listing.specs.ListerLaws.{gets_more, gets_none};
 
     type To = Outlet;
@@ -71,6 +75,8 @@ impl Hearer for RecoveringLister {
     ghost gets = { gets };
 
     ghost room = { room };
+
+    ghost takes = { Lists };
 
     ghost gets_none = { gets_none };
 
@@ -86,7 +92,7 @@ impl Hearer for RecoveringLister {
                     source,
                     what,
                 };
-                self.lister.put_next(outlet, &event);
+                self.lister.give(outlet, event);
             }
             Err(reason) => {
                 let fault = Fault { at, half, reason };
@@ -94,5 +100,30 @@ impl Hearer for RecoveringLister {
                 self.is_faulty = true;
             }
         }
+    }
+
+    #[inline(always)]
+    fn events_left(&self, outlet: &Outlet) -> usize {
+        self.lister.events_left(outlet)
+    }
+
+    #[inline(always)]
+    fn takes_told(&self, source: SourceId, kind: SourceKind) -> bool {
+        self.lister.takes_told(source, kind)
+    }
+
+    #[inline(always)]
+    fn hear_told(&mut self, outlet: &mut Outlet, at: u64, half: u8, source: SourceId, told: Told) {
+        self.lister.give_told(outlet, at, half, source, told);
+    }
+
+    #[inline(always)]
+    fn hear_raw(&mut self, outlet: &mut Outlet, at: u64, source: SourceId, bytes: &[u8]) {
+        self.lister.give_raw(outlet, at, source, bytes);
+    }
+
+    #[inline(always)]
+    fn hear_trigger(&mut self, outlet: &mut Outlet, at: u64, source: SourceId, byte: u8) {
+        self.lister.give_trigger(outlet, at, source, byte);
     }
 }

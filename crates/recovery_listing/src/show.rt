@@ -86,7 +86,7 @@ impl Action for RecoveringShow {
     }
 
     /// Takes bytes while the outlet has room for the lines of a frame.
-    fn feed(&mut self, piece: &[u8], outlet: &mut Outlet) -> Progress {
+    fn feed(&mut self, piece: &[u8], outlet: &mut Outlet, _notes: &mut Outlet) -> Progress {
         let mut done = 0;
         while done < piece.len() && outlet.len() <= OUTLET_ROOM - ACTION_ROOM {
             done += self.take(&piece[done..], outlet);

@@ -26,7 +26,7 @@ use Rattle.recovery_report.specs.Port.{PortStretch, PortStretches, of_stretches,
 use Rattle.recovery_report.specs.Counts.{CountsGrow}
 
 -- the frames of stretches with one more
-frames_push : (past : List PortStretch) (s : PortStretch) →
+pub frames_push : (past : List PortStretch) (s : PortStretch) →
     flat_map (λ (t : PortStretch). t.reading.frames) (past ++ s ∷ [])
     ≡ flat_map (λ (t : PortStretch). t.reading.frames) past ++ s.reading.frames
 frames_push past s =

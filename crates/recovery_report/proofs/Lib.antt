@@ -5,3 +5,5 @@ pub mod Sounds
 pub mod Rises
 pub mod Hearing
 pub mod Singles
+pub mod Guesses
+pub mod Sure

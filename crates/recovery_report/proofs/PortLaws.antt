@@ -31,7 +31,7 @@ use Rattle.recovery_report.specs.Report.{Part, Run, Locks, lock_of, break_of, pa
 use Rattle.recovery_report.specs.Words.{parts_by}
 
 -- the lock's part stays, or comes
-lock_same : (old more new : List (PortItem × Place)) (m n : ℕ) → 0 < length old → new ≡ old ++ more → m ≡ n →
+pub lock_same : (old more new : List (PortItem × Place)) (m n : ℕ) → 0 < length old → new ≡ old ++ more → m ≡ n →
     lock_of new m ≡ lock_of old n
 lock_same [] more new m n some e s = absurd (omega arith)
 lock_same (x ∷ old) more new m n some e s = ap (λ l. lock_of l m) e ∙ ap (λ k. lock_of (x ∷ old) k) s
@@ -92,7 +92,7 @@ lock_quiet h u count at byte true l m s = lock_reads h u count at byte l s
 lock_quiet h u count at byte false l m s = lock_waits h u count at byte l m
 
 -- all_runs of more frames
-runs_push : (frames : List (List Cell)) (cells : List Cell) →
+pub runs_push : (frames : List (List Cell)) (cells : List Cell) →
     map Run (all_runs (frames ++ cells ∷ [])) ≡ map Run (all_runs frames) ++ map Run (runs_of cells)
 runs_push frames cells =
     ap (map Run) (flat_map-append (λ (f : List Cell). runs_of f) frames (cells ∷ [])

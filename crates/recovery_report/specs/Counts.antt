@@ -16,7 +16,7 @@ use Rattle.source_events.specs.declared.plan.Plan.{Plan}
 use Rattle.source_events.specs.declared.tails.PortCounts.{PortCounts}
 use Rattle.source_events.specs.Merge.{is_of}
 use Rattle.stretch_readings.specs.declared.heard.Heard.{Heard}
-use Rattle.stretch_readings.specs.declared.heard.Heard.TheVariants.{Read, Broken}
+use Rattle.stretch_readings.specs.declared.heard.Heard.TheVariants.{Read, Broken, Guessed, Misread}
 use Rattle.recovery_report.specs.Port.{PortStretches, recovered, frames_of, fulls_of, halves_of}
 use Rattle.recovery_report.specs.Report.{report}
 
@@ -28,11 +28,13 @@ port_counts_of plan u = let r = recovered plan.frames u in record {
   frames = length (frames_of r);
 }
 
--- an event that is no notice of a lock, and no fault
+-- an event that is no notice of a lock, no fault and no guess
 abbrev pub is_item : What (Heard Packet) → Bool
 is_item (Locked skipped) = false
 is_item (Said (Read packet)) = true
 is_item (Said (Broken reason)) = false
+is_item (Said (Guessed packet)) = false
+is_item (Said (Misread reason)) = false
 is_item (Raw bytes) = true
 is_item (Trigger byte) = true
 

@@ -1,12 +1,12 @@
 -- The recovering report of a capture.
-use Rattle.std.specs.Prelude.{ℕ, List, [], ◌∷◌, ◌++◌, map, flat_map, drop, length, Bool, true, false, Option, None}
-use Rattle.std.specs.Prelude.{Some, if◌then◌else◌}
+use Rattle.std.specs.Prelude.{ℕ, List, [], ◌∷◌, ◌++◌, map, filter, flat_map, drop, length, Bool, true, false, not}
+use Rattle.std.specs.Prelude.{Option, None, Some, if◌then◌else◌}
 use Rattle.std.specs.List.{range_with_len}
 use Rattle.trace_values.specs.declared.cell.Cell.{Cell}
 use Rattle.trace_values.specs.declared.fault.Reason.{Reason}
 use Rattle.trace_values.specs.declared.limits.TheConstants.{ID_COUNT}
 use Rattle.trace_values.specs.Placed.{Place, Placed}
-use Rattle.trace_values.specs.Stream.{Stream}
+use Rattle.trace_values.specs.Stream.{Said as SaidOf, Stream}
 use Rattle.frame_grammar.specs.Port.{PortItem}
 use Rattle.frame_grammar.specs.Reading.{is_source}
 use Rattle.trace_values.specs.ReadingModes.{packets_hunt}
@@ -29,8 +29,10 @@ use Rattle.source_events.specs.Report.{lifted, raws}
 use Rattle.source_events.specs.Runs.{id_of, all_runs}
 use Rattle.stretch_readings.specs.declared.heard.Heard.{Heard}
 use Rattle.stretch_readings.specs.declared.heard.Heard.TheVariants.{Broken}
+use Rattle.recovering_machines.specs.Hearing.{is_guess}
 use Rattle.recovering_machines.specs.Run.{units_in}
 use Rattle.source_machine.specs.Units.{reads_by}
+use Rattle.stretch_readings.specs.Guessing.{said_of}
 use Rattle.stretch_readings.specs.Stretches.{Fed, One, Mark, Stretches, stretches, from_fault, heard_of}
 use Rattle.recovery_report.specs.Port.{PortStretch, PortStretches, recovered, all_of, frames_of, skipped_of}
 
@@ -80,32 +82,62 @@ run_in (Run run) = run ∷ []
 run_in (Locks skipped place) = []
 run_in (Breaks reason place) = []
 
--- what a source says in parts
-abbrev pub events_by : Plan → Option SourceKind → ℕ → List Part → List (What (Heard Packet) × Place)
-events_by plan None x parts = raws x (flat_map run_in parts)
-events_by plan (Some kind) x parts = lifted (stream_of plan kind x parts).given
+-- what a mapped source says in parts, with its guesses or without
+abbrev pub said_in : Bool → Plan → SourceKind → ℕ → List Part → List (SaidOf (Heard Packet) × Place)
+said_in guesses plan kind x parts =
+    said_of (reads_by plan.order kind) from_fault guesses (stretches_of plan kind x parts)
 
-abbrev pub events_of : Plan → ℕ → List Part → List (What (Heard Packet) × Place)
-events_of plan x parts = events_by plan (kind_of plan x) x parts
+-- what a source says in parts
+abbrev pub events_by_with : Bool → Plan → Option SourceKind → ℕ → List Part → List (What (Heard Packet) × Place)
+events_by_with guesses plan None x parts = raws x (flat_map run_in parts)
+events_by_with guesses plan (Some kind) x parts = lifted (said_in guesses plan kind x parts)
+
+abbrev pub events_of_with : Bool → Plan → ℕ → List Part → List (What (Heard Packet) × Place)
+events_of_with guesses plan x parts = events_by_with guesses plan (kind_of plan x) x parts
 
 -- what one more part adds: a run to the events of its source, a lock or a fault to those of the port
+abbrev pub added_by_with : Bool → Plan → List Part → Option ℕ → Part → List (Event (Heard Packet))
+added_by_with guesses plan before None m = []
+added_by_with guesses plan before (Some x) m =
+    told (Some x) (drop (length (events_of_with guesses plan x before))
+    (events_of_with guesses plan x (before ++ m ∷ [])))
+
+abbrev pub added_with : Bool → Plan → List Part → Part → List (Event (Heard Packet))
+added_with guesses plan before (Run run) = added_by_with guesses plan before (id_of run) (Run run)
+added_with guesses plan before (Locks skipped place) = told None ((Locked skipped, place) ∷ [])
+added_with guesses plan before (Breaks reason place) = told None ((Said (Broken reason), place) ∷ [])
+
+abbrev pub report_from_with : Bool → Plan → List Part → List Part → List (Event (Heard Packet))
+report_from_with guesses plan before [] = []
+report_from_with guesses plan before (m ∷ ms) =
+    added_with guesses plan before m ++ report_from_with guesses plan (before ++ m ∷ []) ms
+
+-- the events of a capture, in order, with guesses or without
+abbrev pub report_with : Bool → Plan → List Placed → List (Event (Heard Packet))
+report_with guesses plan u = report_from_with guesses plan [] (parts_in (recovered plan.frames u))
+
+-- those of these events that are no guesses
+abbrev pub sure_events : List (Event (Heard Packet)) → List (Event (Heard Packet))
+sure_events es = filter (λ e. not (is_guess e.what)) es
+
+-- what sources say, what parts add and the report without guesses
+abbrev pub events_by : Plan → Option SourceKind → ℕ → List Part → List (What (Heard Packet) × Place)
+events_by plan kind x parts = events_by_with false plan kind x parts
+
+abbrev pub events_of : Plan → ℕ → List Part → List (What (Heard Packet) × Place)
+events_of plan x parts = events_of_with false plan x parts
+
 abbrev pub added_by : Plan → List Part → Option ℕ → Part → List (Event (Heard Packet))
-added_by plan before None m = []
-added_by plan before (Some x) m =
-    told (Some x) (drop (length (events_of plan x before)) (events_of plan x (before ++ m ∷ [])))
+added_by plan before x m = added_by_with false plan before x m
 
 abbrev pub added : Plan → List Part → Part → List (Event (Heard Packet))
-added plan before (Run run) = added_by plan before (id_of run) (Run run)
-added plan before (Locks skipped place) = told None ((Locked skipped, place) ∷ [])
-added plan before (Breaks reason place) = told None ((Said (Broken reason), place) ∷ [])
+added plan before m = added_with false plan before m
 
 abbrev pub report_from : Plan → List Part → List Part → List (Event (Heard Packet))
-report_from plan before [] = []
-report_from plan before (m ∷ ms) = added plan before m ++ report_from plan (before ++ m ∷ []) ms
+report_from plan before ms = report_from_with false plan before ms
 
--- the events of a capture, in order
 abbrev pub report : Plan → List Placed → List (Event (Heard Packet))
-report plan u = report_from plan [] (parts_in (recovered plan.frames u))
+report plan u = report_with false plan u
 
 -- how the last stretch was read
 abbrev pub mode_by : Bool → Bool → PortMode

@@ -23,19 +23,21 @@ ghost use Rattle.stretch_readings.specs.Stretches.{One, Stretches, fed, from_fau
 ghost use Rattle.stretch_readings.specs.Stretches.{stretches};
 ghost use Rattle.recovery_report.specs.Port.{of_stretches};
 ghost use Rattle.source_machine.specs.Units.{reads_by};
-ghost use Rattle.recovery_report.specs.Report.{Part, Run, Locks, Breaks, added, parts_in, report_from, stretches_of};
+ghost use Rattle.recovery_report.specs.Report.{Part, Run, Locks, Breaks, added_with, parts_in, report_from_with};
+ghost use Rattle.recovery_report.specs.Report.{stretches_of};
 ghost use Rattle.recovery_report.specs.Words.{OwnRun, parts_by};
 
-/// With one more part the report has what the part adds, and nothing is taken back.
+/// With one more part the report, with guesses or without, has what the part adds, and nothing is taken back.
 pub fn growing_law()
-    ensures { (plan : Plan) (parts : List Part) (m : Part) →
-        report_from plan [] (parts ++ m ∷ []) ≡ report_from plan [] parts ++ added plan parts m }
+    ensures { (guesses : Bool) (plan : Plan) (parts : List Part) (m : Part) →
+        report_from_with guesses plan [] (parts ++ m ∷ []) ≡
+        report_from_with guesses plan [] parts ++ added_with guesses plan parts m }
 {}
 
 /// What one more part is to a mapped source: a run of its own, a run of another one, a lock of the port, or a cut.
 pub fn source_law()
-    ensures own { (plan : Plan) (kind : SourceKind) (x : ℕ) (parts : List Part) (run : List Cell) →
-        kind_of plan x ≡ Some kind → id_of run ≡ Some x → OwnRun plan kind x parts run }
+    ensures own { (guesses : Bool) (plan : Plan) (kind : SourceKind) (x : ℕ) (parts : List Part) (run : List Cell) →
+        kind_of plan x ≡ Some kind → id_of run ≡ Some x → OwnRun guesses plan kind x parts run }
     ensures other { (plan : Plan) (kind : SourceKind) (x : ℕ) (parts : List Part) (run : List Cell) →
         is_source x (id_of run) ≡ false →
         stretches_of plan kind x (parts ++ Run run ∷ []) ≡ stretches_of plan kind x parts }

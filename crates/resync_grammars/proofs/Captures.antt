@@ -1,20 +1,11 @@
 -- Sources inside a capture.
-use Rattle.std.proofs.Common.{◌≡◌, ℕ, List, [], ◌++◌, sym, ◌∙◌, ap, Bool, None}
+use Rattle.std.proofs.Common.{◌≡◌, ℕ, List, ◌++◌, sym, ◌∙◌, ap, Bool, None}
 use Rattle.trace_values.proofs.NibbleModes.{nibbles_append}
-use Rattle.trace_values.specs.Grammar.{InUnits}
-use Rattle.trace_values.specs.Nibbles.{nibbles_of}
-use Rattle.trace_values.specs.Placed.{Placed, units_of}
-use Rattle.trace_values.specs.Walk.{by_unit}
-use Rattle.trace_values.specs.declared.reading_modes.FramesMode.{FramesMode}
-use Rattle.itm_grammar.specs.declared.partial.Partial.TheVariants.{Header}
-use Rattle.itm_grammar.specs.declared.packet.ItmPacket.TheVariants.{Sync}
+use Rattle.resync_grammars.specs.Names.{InUnits, nibbles_of, Placed, units_of, by_unit, FramesMode, Header, Sync, Order}
+use Rattle.resync_grammars.specs.Names.{items_at, items_in, port_reading, IsRest}
 use Rattle.itm_grammar.specs.Spelling.{Spells, why}
 use Rattle.itm_grammar.specs.Rule.{rule}
 use Rattle.itm_codec.specs.Reading.{pattern, packets_in}
-use Rattle.stp_grammar.specs.declared.packet.Order.{Order}
-use Rattle.stp_codec.specs.Reading.{items_at, items_in}
-use Rattle.deformatter.specs.PortReading.{port_reading}
-use Rattle.resync_rules.specs.Fronts.{IsRest}
 use Rattle.resync_rules.proofs.Resting as resting
 use Rattle.resync_grammars.specs.Port.{rest_mode}
 use Rattle.resync_grammars.proofs.Modes.{bytes_rest}

@@ -2,27 +2,16 @@
 use Rattle.std.proofs.Common.{◌≡◌, ℕ, suc, ◌+◌, ◌<◌, ◌≤◌, List, refl, sym, subst, ◌⊎◌, inl, inr, arith, true}
 use Rattle.std.proofs.lemmas.Bool.Decides.{nat_tests}
 use Rattle.itm_grammar.proofs.Fitting.{at_most_four}
-use Rattle.trace_values.specs.declared.next.Next.{Next}
-use Rattle.trace_values.specs.declared.next.Next.TheVariants.{Go, End, Fail}
-use Rattle.trace_values.specs.Placed.{units_of}
-use Rattle.trace_values.specs.Grammar.{InUnits}
-use Rattle.trace_values.specs.Walk.{by_unit}
-use Rattle.trace_values.specs.Hunt.{EndsWith}
-use Rattle.trace_values.specs.Hunted.{pattern_of}
-use Rattle.itm_grammar.specs.declared.packet.Size.{Size}
-use Rattle.itm_grammar.specs.declared.packet.Size.TheVariants.{One, Two, Four}
-use Rattle.itm_grammar.specs.declared.packet.ItmPacket.{ItmPacket}
-use Rattle.itm_grammar.specs.declared.packet.ItmPacket.TheVariants.{Sync}
+use Rattle.resync_grammars.specs.Names.{Next, Go, End, Fail, units_of, InUnits, by_unit, EndsWith, pattern_of}
+use Rattle.resync_grammars.specs.Names.{ItmPacket, Sync, Header, Zeros, Payload, EndsOrFails, Syncs}
 use Rattle.itm_grammar.specs.declared.header.Class.{Class}
 use Rattle.itm_grammar.specs.declared.header.Class.TheVariants.{Zero, Overflow as Overflowed, Source, LocalShort, LocalLong, GlobalFirst as First, GlobalSecond as Second, Extension as Extended, Reserved}
 use Rattle.itm_grammar.specs.declared.partial.Partial.{Partial}
-use Rattle.itm_grammar.specs.declared.partial.Partial.TheVariants.{Header, Zeros, Payload}
 use Rattle.itm_grammar.specs.Spelling.{Spells, why, byte_count}
 use Rattle.itm_grammar.specs.Rule.{rule, last, another_follows}
 use Rattle.itm_grammar.proofs.Deciding.{decided, zeros_cases}
 use Rattle.itm_grammar.proofs.Payloads.{last_ends, added, payload_cases}
 use Rattle.itm_codec.specs.Reading.{pattern}
-use Rattle.resync_rules.specs.Syncing.{EndsOrFails, Syncs}
 use Rattle.resync_rules.proofs.Running as running
 
 -- k bytes 00 end a payload of this class after this many bytes: at least one of them is in it, unless k is 0 and the

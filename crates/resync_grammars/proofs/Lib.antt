@@ -1,7 +1,7 @@
 pub mod Syncing
 pub mod Naming
 pub mod Resting
-pub mod Names
+pub mod Named
 pub mod NamedCells
 pub mod Modes
 pub mod ItmSyncing

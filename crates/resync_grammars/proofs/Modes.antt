@@ -2,15 +2,9 @@
 use Rattle.std.proofs.Common.{◌≡◌, List, [], ◌∷◌, ◌++◌, map, refl, sym, ◌∙◌, ap, inl, inr, append_assoc, append-nil}
 use Rattle.std.proofs.Common.{true, false, Bool, ℕ, None}
 use Rattle.std.proofs.lemmas.List.{map-append}
-use Rattle.trace_values.specs.declared.cell.Cell.{Cell}
-use Rattle.trace_values.specs.Placed.{Placed}
-use Rattle.trace_values.specs.declared.reading_modes.FramesMode.{FramesMode}
-use Rattle.trace_values.specs.declared.reading_modes.FramesMode.TheVariants.{Hunt, Aligned, Bare}
-use Rattle.frame_grammar.specs.Reading.{cells_of_items}
-use Rattle.frame_grammar.specs.SourceBytes.{source_units}
+use Rattle.resync_grammars.specs.Names.{Cell, Placed, FramesMode, Hunt, Aligned, Bare, cells_of_items, source_units}
+use Rattle.resync_grammars.specs.Names.{items_of, port_stream, cells_in, bare_cell, port_reading, cells_of}
 use Rattle.frame_grammar.proofs.SourceBytes as sources
-use Rattle.deformatter.specs.Reading.{items_of, port_stream, cells_in}
-use Rattle.deformatter.specs.PortReading.{bare_cell, port_reading, cells_of}
 use Rattle.deformatter.proofs.PortReadingLaws.{framed_cells, bare_cells}
 use Rattle.resync_grammars.specs.Port.{unnamed, BeginsNamed, IsPortRest, rest_mode, CellsRest}
 use Rattle.resync_grammars.proofs.Resting as framed

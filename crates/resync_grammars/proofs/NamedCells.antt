@@ -2,23 +2,17 @@
 use Rattle.std.proofs.Common.{◌≡◌, ◌<◌, List, [], ◌∷◌, ◌++◌, length, map, refl, sym, ◌∙◌, ap, subst, inl, inr, Bool}
 use Rattle.std.proofs.Common.{true, false}
 use Rattle.std.specs.List.{AllByRecursion}
-use Rattle.trace_values.specs.declared.cell.Cell.{Cell}
-use Rattle.trace_values.specs.Placed.{Placed}
-use Rattle.trace_values.specs.Reading.{progress}
+use Rattle.resync_grammars.specs.Names.{Cell, Placed, progress, Full, Spells, why, start, rule, pattern, PortStream}
+use Rattle.resync_grammars.specs.Names.{items_of, port_stream, cells_in, FramesMode, Hunt, Aligned, Bare, bare_cell}
+use Rattle.resync_grammars.specs.Names.{port_reading, cells_of}
 use Rattle.trace_values.proofs.Readings as readings
-use Rattle.frame_grammar.specs.Port.{Full, Spells, why, start, rule}
 use Rattle.frame_grammar.proofs.Deciding.{port_decided}
-use Rattle.port_sync.specs.Hunting.{pattern}
-use Rattle.deformatter.specs.Reading.{PortStream, items_of, port_stream, cells_in}
-use Rattle.trace_values.specs.declared.reading_modes.FramesMode.{FramesMode}
-use Rattle.trace_values.specs.declared.reading_modes.FramesMode.TheVariants.{Hunt, Aligned, Bare}
-use Rattle.deformatter.specs.PortReading.{bare_cell, port_reading, cells_of}
 use Rattle.deformatter.proofs.PortReadingLaws.{framed_cells, bare_cells}
 use Rattle.resync_grammars.specs.Port.{BeginsNamed, HasId}
 use Rattle.resync_rules.proofs.Locking as locking
 use Rattle.resync_grammars.proofs.Syncing.{port_syncs}
 use Rattle.resync_grammars.proofs.Resting.{reads, skips}
-use Rattle.resync_grammars.proofs.Names.{Each, each_parts, Named, all_named, named_after, named_items, split_names}
+use Rattle.resync_grammars.proofs.Named.{Each, each_parts, Named, all_named, named_after, named_items, split_names}
 
 to_each : {A : Type 0} (P : A → Type 0) (xs : List A) → AllByRecursion P xs → Each P xs
 to_each P [] e = tt

@@ -4,13 +4,10 @@ use Rattle.std.specs.Prelude.{◌==◌, ◌&&◌, ◌||◌, ◌/◌, ◌%◌, no
 use Rattle.std.specs.List.{filter, range_with_len}
 use Rattle.std.proofs.lemmas.List.{map-append}
 use Rattle.std.proofs.lemmas.Bool.Decides.{nat_tests}
-use Rattle.trace_values.specs.declared.cell.Cell.{Cell}
-use Rattle.trace_values.specs.Placed.{units_of}
-use Rattle.frame_grammar.specs.Frame.{names, aux_bit, in_effect, id_below, run_at, cell, cells, id_after, data_at, data_indexes}
-use Rattle.frame_grammar.specs.Port.{PortItem, Full, Half, Frame}
-use Rattle.frame_grammar.specs.Reading.{offsets_of, cells_of_items}
+use Rattle.resync_grammars.specs.Names.{Cell, units_of, names, aux_bit, in_effect, id_below, run_at, cell, cells}
+use Rattle.resync_grammars.specs.Names.{id_after, data_at, data_indexes, PortItem, Full, Half, Frame, offsets_of}
+use Rattle.resync_grammars.specs.Names.{cells_of_items, source_id}
 use Rattle.frame_grammar.proofs.CellLaws.{cells_are}
-use Rattle.trace_values.specs.Cells.{source_id}
 use Rattle.resync_grammars.specs.Port.{unnamed, AreNamedLater}
 
 -- the same cells, but for the IDs of a front of them

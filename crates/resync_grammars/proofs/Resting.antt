@@ -3,19 +3,14 @@ use Rattle.std.proofs.Common.{◌≡◌, ℕ, ◌+◌, List, [], ◌∷◌, ◌+
 use Rattle.std.specs.List.{sum_by}
 use Rattle.std.proofs.lemmas.List.{map-append, nil_from_length}
 use Rattle.std.proofs.lemmas.List.Sums.{sum_by-append}
-use Rattle.trace_values.specs.declared.cell.Cell.{Cell}
-use Rattle.trace_values.specs.Placed.{Place, Placed, units_of}
-use Rattle.trace_values.specs.Reading.{Progress, Splits, progress}
-use Rattle.trace_values.specs.Hunt.{IsAfter, EndsWith}
-use Rattle.trace_values.specs.Hunted.{pattern_of, Found, hunt}
+use Rattle.resync_grammars.specs.Names.{Cell, Place, Placed, units_of, Progress, Splits, progress, IsAfter, EndsWith}
+use Rattle.resync_grammars.specs.Names.{pattern_of, Found, hunt, PortItem, Full, State, Spells, why, start, rule}
+use Rattle.resync_grammars.specs.Names.{halves_in, cells_of_items, id_of_items, pattern, PortStream, items_of}
+use Rattle.resync_grammars.specs.Names.{read_after, all_skipped, port_hunted, port_stream, cells_in}
 use Rattle.trace_values.proofs.Standings.{from_append}
 use Rattle.trace_values.proofs.Readings as readings
-use Rattle.frame_grammar.specs.Port.{PortItem, Full, State, Spells, why, start, rule}
-use Rattle.frame_grammar.specs.Reading.{halves_in, cells_of_items, id_of_items}
 use Rattle.frame_grammar.proofs.Deciding.{port_decided}
 use Rattle.frame_grammar.proofs.Items.{cells_of_items-append}
-use Rattle.port_sync.specs.Hunting.{pattern}
-use Rattle.deformatter.specs.Reading.{PortStream, items_of, read_after, all_skipped, port_hunted, port_stream, cells_in}
 use Rattle.resync_grammars.specs.Port.{FullEnded, IsFull, PortLocks, IsFramedRest, AreNamedLater}
 use Rattle.resync_rules.proofs.Continuing as continuing
 use Rattle.resync_rules.proofs.Syncing.{units_append, units_length, splits_last, ends_within}

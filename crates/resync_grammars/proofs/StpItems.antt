@@ -5,16 +5,10 @@ use Rattle.std.specs.Option.{option_or}
 use Rattle.std.specs.List.{list_any, after_last, filter_map}
 use Rattle.std.proofs.lemmas.List.{map-append}
 use Rattle.std.proofs.lemmas.List.Folds.{list_any-append}
-use Rattle.trace_values.specs.Placed.{Place}
-use Rattle.trace_values.specs.Stream.{Kept, kept}
-use Rattle.trace_values.specs.Decorated.{kept_if, decorate, carried}
+use Rattle.resync_grammars.specs.Names.{Place, Kept, kept, kept_if, decorate, carried, last_word, Version, StpPacket}
+use Rattle.resync_grammars.specs.Names.{Async, Plain, Stamped, None as NoStamp}
 use Rattle.trace_values.proofs.Decorating.{decorate_append}
-use Rattle.trace_clock.specs.LastWord.{last_word}
 use Rattle.trace_clock.proofs.LastStamps.{after_itself, after_same}
-use Rattle.stp_grammar.specs.declared.packet.Row.TheVariants.{Version}
-use Rattle.stp_grammar.specs.declared.packet.StpPacket.{StpPacket}
-use Rattle.stp_grammar.specs.declared.packet.StpPacket.TheVariants.{Async, Plain, Stamped}
-use Rattle.stp_grammar.specs.declared.item.Stamp.TheVariants.{None as NoStamp}
 use Rattle.stp_grammar.specs.NextState.{next_version}
 use Rattle.stp_grammar.specs.Attribution.{version_in, master8_in, master16_in, channel8_in, channel16_in, stamp_in, last_given, begins_master, begins_channel, number_by, number_of, version_of, master_of, channel_of, keeps_word, last_word_of, place_of, stamp_by, stamp_of, item_with, item_of, attribute}
 use Rattle.stp_grammar.proofs.Attributing.{version_more}

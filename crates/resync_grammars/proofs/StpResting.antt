@@ -2,30 +2,19 @@
 use Rattle.std.proofs.Common.{◌≡◌, ℕ, List, [], ◌∷◌, ◌++◌, refl, ◌∙◌, ap, subst, inl, inr, Bool, true, false, None}
 use Rattle.std.specs.Prelude.{Option, Some}
 use Rattle.std.specs.List.{AllByRecursion}
-use Rattle.trace_values.specs.Grammar.{InUnits}
-use Rattle.trace_values.specs.Placed.{Place, Placed, units_of}
-use Rattle.trace_values.specs.Stream.{Stream, Said, Kept, kept}
-use Rattle.trace_values.specs.Walk.{by_unit}
-use Rattle.trace_values.specs.Decorated.{kept_if, decorate, carried, decorated}
+use Rattle.resync_grammars.specs.Names.{InUnits, Place, Placed, units_of, Stream, Said, Kept, kept, by_unit, kept_if}
+use Rattle.resync_grammars.specs.Names.{decorate, carried, decorated, Order, Row, StpPacket, Async, Plain, Stamped}
+use Rattle.resync_grammars.specs.Names.{Start, None as NoStamp, StpItem, line_of, version_in, place_of, stamp_of}
+use Rattle.resync_grammars.specs.Names.{item_with, item_of, attribute, Locks, IsRest}
 use Rattle.trace_values.proofs.Decorating.{decorate_append}
-use Rattle.stp_grammar.specs.declared.packet.Order.{Order}
-use Rattle.stp_grammar.specs.declared.packet.Row.{Row}
 use Rattle.stp_grammar.specs.declared.packet.Row.TheVariants.{Null, Master8, MasterError, Channel8, Datum, Flag, Master16, GlobalError, Channel16, Version, NullStamp, Trigger, Frequency}
-use Rattle.stp_grammar.specs.declared.packet.StpPacket.{StpPacket}
-use Rattle.stp_grammar.specs.declared.packet.StpPacket.TheVariants.{Async, Plain, Stamped}
-use Rattle.stp_grammar.specs.declared.partial.Partial.TheVariants.{Start}
 use Rattle.stp_grammar.specs.declared.item.Place.{Place as Origin}
 use Rattle.stp_grammar.specs.declared.item.Stamp.{Stamp}
-use Rattle.stp_grammar.specs.declared.item.Stamp.TheVariants.{None as NoStamp}
-use Rattle.stp_grammar.specs.declared.item.StpItem.{StpItem}
-use Rattle.stp_grammar.specs.Opcodes.{line_of}
 use Rattle.stp_grammar.specs.Shortest.{IsByRow}
 use Rattle.stp_grammar.specs.Spelling.{Spells, why}
 use Rattle.stp_grammar.specs.Rule.{rule}
-use Rattle.stp_grammar.specs.Attribution.{version_in, place_of, stamp_of, item_with, item_of, attribute}
 use Rattle.stp_grammar.proofs.ShortSpellings.{by_row}
 use Rattle.stp_codec.specs.Reading.{pattern, packets_in, items_at}
-use Rattle.resync_rules.specs.Fronts.{Locks, IsRest}
 use Rattle.resync_rules.proofs.Resting as resting
 use Rattle.resync_grammars.specs.Stp.{hunting, items_after, HasNoVersion, is_version, ItemsAgree, ItemsLock, IsItemsRest}
 use Rattle.resync_grammars.proofs.StpSyncing.{stp_syncs}

@@ -3,33 +3,21 @@ use Rattle.std.proofs.Common.{◌≡◌, ℕ, suc, ◌+◌, ◌<◌, ◌≤◌, 
 use Rattle.std.specs.Prelude.{nat_le, ◌==◌}
 use Rattle.std.proofs.lemmas.Bool.{leb-true, eqb-true, eqb-false}
 use Rattle.trace_clock.proofs.LastWords.{few_nibbles}
-use Rattle.trace_values.specs.declared.fault.Reason.TheVariants.{BadAsync}
-use Rattle.trace_values.specs.declared.next.Next.{Next}
-use Rattle.trace_values.specs.declared.next.Next.TheVariants.{Go, End, Fail}
-use Rattle.trace_values.specs.Placed.{Placed, units_of}
-use Rattle.trace_values.specs.Grammar.{InUnits}
-use Rattle.trace_values.specs.Walk.{Walked, Within, walk, by_unit}
-use Rattle.trace_values.specs.Reading.{Reading, Progress, progress_from, unread, progress}
-use Rattle.trace_values.specs.Hunt.{EndsWith}
-use Rattle.trace_values.specs.Hunted.{pattern_of}
+use Rattle.resync_grammars.specs.Names.{BadAsync, Next, Go, End, Fail, Placed, units_of, InUnits, Walked, Within, walk}
+use Rattle.resync_grammars.specs.Names.{by_unit, Reading, Progress, progress_from, unread, progress, EndsWith}
+use Rattle.resync_grammars.specs.Names.{pattern_of, nibble_count, Order, Row, StpPacket, Async, Plain, Stamped, line_of}
+use Rattle.resync_grammars.specs.Names.{said_last, EndsOrFails, Syncs}
 use Rattle.trace_values.proofs.Placing.{on_units, walk_units}
 use Rattle.trace_values.proofs.Readings as readings
 use Rattle.trace_values.proofs.Standings.{from_append}
-use Rattle.trace_clock.specs.LastWord.{nibble_count}
-use Rattle.stp_grammar.specs.declared.packet.Order.{Order}
-use Rattle.stp_grammar.specs.declared.packet.Row.{Row}
-use Rattle.stp_grammar.specs.declared.packet.StpPacket.{StpPacket}
-use Rattle.stp_grammar.specs.declared.packet.StpPacket.TheVariants.{Async, Plain, Stamped}
 use Rattle.stp_grammar.specs.declared.partial.Partial.{Partial}
 use Rattle.stp_grammar.specs.declared.partial.Partial.TheVariants.{Start, Second, Third, Run, Payload, Size, Word}
-use Rattle.stp_grammar.specs.Opcodes.{line_of}
 use Rattle.stp_grammar.specs.Spelling.{Spells, why}
 use Rattle.stp_grammar.specs.Rule.{rule, after_payload, number_with}
 use Rattle.stp_grammar.proofs.Deciding.{decided}
 use Rattle.stp_grammar.proofs.EachRow.{each_test}
 use Rattle.stp_grammar.proofs.Reached.{belongs}
 use Rattle.stp_codec.specs.Reading.{pattern}
-use Rattle.resync_rules.specs.Syncing.{said_last, EndsOrFails, Syncs}
 use Rattle.resync_rules.proofs.Continuing as continuing
 use Rattle.resync_rules.proofs.Running as running
 use Rattle.resync_rules.proofs.Syncing.{parts_of}

@@ -2,21 +2,14 @@
 use Rattle.std.proofs.Common.{◌≡◌, ℕ, zero, suc, List, [], ◌∷◌, ◌++◌, length, length-append, refl, sym, ◌∙◌, ap, subst, arith, append_assoc, Bool, true, false, cond}
 use Rattle.std.specs.Prelude.{◌==◌}
 use Rattle.std.proofs.lemmas.List.{append_cancel_left}
-use Rattle.trace_values.specs.declared.fault.Reason.{Reason}
-use Rattle.trace_values.specs.declared.fault.Reason.TheVariants.{SyncInFrame}
-use Rattle.trace_values.specs.declared.next.Next.{Next}
-use Rattle.trace_values.specs.declared.next.Next.TheVariants.{Go, Fail}
-use Rattle.trace_values.specs.Placed.{Place, Placed, units_of}
-use Rattle.trace_values.specs.Reading.{Splits}
+use Rattle.resync_grammars.specs.Names.{Reason, SyncInFrame, Next, Go, Fail, Place, Placed, units_of, Splits}
+use Rattle.resync_grammars.specs.Names.{pattern_of, pattern, BeginsWith, BeginsAt, BeginsOnly, said_last, EndsOrFails}
+use Rattle.resync_grammars.specs.Names.{Syncs}
 use Rattle.trace_values.specs.declared.pattern.Pattern.{Pattern}
-use Rattle.trace_values.specs.Hunted.{pattern_of}
 use Rattle.trace_values.proofs.Lists.{same_fronts}
 use Rattle.trace_values.proofs.Walks.{prefix_law}
 use Rattle.frame_grammar.specs.Port.{PortItem, Full, Spells, why, Part, Between, First, One, Two, Three, State, start, word_ended, rule}
 use Rattle.frame_grammar.proofs.Deciding.{port_decided}
-use Rattle.port_sync.specs.Hunting.{pattern}
-use Rattle.resync_rules.specs.Fronts.{BeginsWith, BeginsAt, BeginsOnly}
-use Rattle.resync_rules.specs.Syncing.{said_last, EndsOrFails, Syncs}
 use Rattle.resync_rules.proofs.Syncing.{units_append, units_length, parts_of, splits_last, ends_only}
 
 abbrev ff : Place → Placed
@@ -55,7 +48,7 @@ parts_on n f h One a b c d = three_on (n == 7) n f h b c d
 parts_on n f h Two a b c d = tt
 parts_on n f h Three a b c d = tt
 
-placed_at : (x : Placed) (n : ℕ) → x.unit ≡ n → x ≡ record { unit = n; place = x.place }
+pub placed_at : (x : Placed) (n : ℕ) → x.unit ≡ n → x ≡ record { unit = n; place = x.place }
 placed_at x n e = ap (λ (m : ℕ). let y : Placed = record { unit = m; place = x.place } in y) e
 
 four : (m : List Placed) → units_of m ≡ 255 ∷ (255 ∷ (255 ∷ (127 ∷ []))) → (a : Place) × (b : Place) × (c : Place) × (d : Place) × (m ≡ ff a ∷ (ff b ∷ (ff c ∷ (end d ∷ []))))

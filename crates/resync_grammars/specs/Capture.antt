@@ -1,9 +1,6 @@
 -- The bytes of a source in a capture.
 use Rattle.std.specs.Prelude.{ℕ, List}
-use Rattle.trace_values.specs.Placed.{Placed}
-use Rattle.trace_values.specs.declared.reading_modes.FramesMode.{FramesMode}
-use Rattle.frame_grammar.specs.SourceBytes.{source_units}
-use Rattle.deformatter.specs.PortReading.{port_reading, cells_of}
+use Rattle.resync_grammars.specs.Names.{Placed, FramesMode, source_units, port_reading, cells_of}
 
 -- those that a port's bytes give in a mode, each at its place
 abbrev pub source_bytes : FramesMode → ℕ → List Placed → List Placed

@@ -1,10 +1,7 @@
 -- Lost fronts of a source of ITM packets (ARMv7-M Architecture Reference Manual, Arm DDI 0403E, appendix D4 'Debug ITM
 -- and DWT Packet Protocol', section D4.2 'Packet descriptions', 'Synchronization packet').
 use Rattle.std.specs.Prelude.{Bool, true}
-use Rattle.itm_grammar.specs.declared.packet.ItmPacket.{ItmPacket}
-use Rattle.itm_grammar.specs.declared.packet.ItmPacket.TheVariants.{Sync}
-use Rattle.itm_codec.specs.Reading.{packets_in}
-use Rattle.resync_rules.specs.Fronts.{Hunting}
+use Rattle.resync_grammars.specs.Names.{ItmPacket, Sync, packets_in, Hunting}
 
 -- A whole list of bytes read from its first byte on or after a hunt, and its rest read after a hunt, for a
 -- synchronisation packet, by the six bytes 00 00 00 00 00 80.

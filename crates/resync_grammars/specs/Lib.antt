@@ -1,3 +1,4 @@
+pub mod Names
 pub mod Port
 pub mod PortRows
 pub mod Itm

@@ -2,15 +2,9 @@
 -- Formatter', its section on frames): what a hunt in the rest reads, against the whole.
 use Rattle.std.specs.Prelude.{◌≡◌, ◌⊎◌, ℕ, ◌+◌, ◌≤◌, List, [], ◌∷◌, ◌++◌, length, map, Bool, true, false, None, is_none}
 use Rattle.std.specs.List.{sum_by}
-use Rattle.trace_values.specs.declared.cell.Cell.{Cell}
-use Rattle.trace_values.specs.Placed.{Place, Placed}
-use Rattle.trace_values.specs.declared.reading_modes.FramesMode.{FramesMode}
-use Rattle.trace_values.specs.declared.reading_modes.FramesMode.TheVariants.{Hunt, Aligned, Bare}
-use Rattle.frame_grammar.specs.Port.{PortItem, Full}
-use Rattle.frame_grammar.specs.Reading.{cells_of_items, halves_in}
-use Rattle.frame_grammar.specs.SourceBytes.{source_units}
-use Rattle.deformatter.specs.Reading.{PortStream, all_skipped, items_of, port_stream, cells_in}
-use Rattle.deformatter.specs.PortReading.{bare_cell, port_reading, cells_of}
+use Rattle.resync_grammars.specs.Names.{Cell, Place, Placed, FramesMode, Hunt, Aligned, Bare, PortItem, Full}
+use Rattle.resync_grammars.specs.Names.{cells_of_items, halves_in, source_units, PortStream, all_skipped, items_of}
+use Rattle.resync_grammars.specs.Names.{port_stream, cells_in, bare_cell, port_reading, cells_of}
 
 -- a full synchronisation has just ended: it is the last item, and no bytes follow it
 pub record FullEnded (s : PortStream) : Type 0 where

@@ -1,10 +1,6 @@
 -- Worked rows of captures and their rests, in text.
 use Rattle.std.specs.Prelude.{ℕ, List, ◌++◌, codes, drop, map, Bool, Option, option_map}
-use Rattle.trace_values.specs.declared.fault.Reason.{Reason}
-use Rattle.trace_values.specs.Hex.{hex}
-use Rattle.trace_values.specs.Placed.{placed}
-use Rattle.trace_values.specs.declared.reading_modes.FramesMode.TheVariants.{Hunt, Aligned}
-use Rattle.deformatter.specs.PortReading.{PortReading, port_reading}
+use Rattle.resync_grammars.specs.Names.{Reason, hex, placed, Hunt, Aligned, PortReading, port_reading}
 
 -- a full synchronisation and a frame that names ID 1 at once, and the same with a frame that names ID 2 at its index 4
 abbrev pub two_frames : List ℕ

@@ -1,15 +1,7 @@
 -- Worked rows of sources and their rests, in text.
 use Rattle.std.specs.Prelude.{ℕ, List, codes, drop, map, Bool, true, false, Option, option_map, is_none}
-use Rattle.trace_values.specs.declared.fault.Reason.{Reason}
-use Rattle.trace_values.specs.Hex.{hex}
-use Rattle.trace_values.specs.Placed.{Place, placed}
-use Rattle.trace_values.specs.Stream.{Stream, Said, Kept}
-use Rattle.itm_grammar.specs.declared.packet.ItmPacket.{ItmPacket}
-use Rattle.itm_codec.specs.Reading.{packets_in}
-use Rattle.stp_grammar.specs.declared.packet.Order.{Order}
-use Rattle.stp_grammar.specs.declared.item.StpItem.{StpItem}
-use Rattle.stp_grammar.specs.declared.item.StpItem.TheVariants.{Datum}
-use Rattle.stp_codec.specs.Reading.{items_in}
+use Rattle.resync_grammars.specs.Names.{Reason, hex, Place, placed, Stream, Said, Kept, ItmPacket, packets_in, Order}
+use Rattle.resync_grammars.specs.Names.{StpItem, Datum, items_in}
 
 -- a D64 of nibbles F, an ASYNC and VERSION 4
 abbrev pub ones : List ℕ

@@ -2,20 +2,11 @@
 -- tell of later ones is this project's profile), nibble by nibble.
 use Rattle.std.specs.Prelude.{◌≡◌, ◌⊎◌, ℕ, ◌-◌, ◌≤◌, List, [], ◌∷◌, ◌++◌, length, replicate, Bool, true, false, None}
 use Rattle.std.specs.List.{AllByRecursion}
-use Rattle.trace_values.specs.Placed.{Place, Placed, units_of}
-use Rattle.trace_values.specs.Grammar.{InUnits}
-use Rattle.trace_values.specs.Hunt.{EndsWith}
-use Rattle.trace_values.specs.Reading.{Reading, Splits, IsReading}
-use Rattle.trace_values.specs.Stream.{Said, Notice, Kept, kept}
-use Rattle.trace_values.specs.Decorated.{decorate, carried}
-use Rattle.stp_grammar.specs.declared.packet.Order.{Order}
-use Rattle.stp_grammar.specs.declared.packet.Row.TheVariants.{Version}
-use Rattle.stp_grammar.specs.declared.packet.StpPacket.{StpPacket}
-use Rattle.stp_grammar.specs.declared.packet.StpPacket.TheVariants.{Async, Plain}
-use Rattle.stp_grammar.specs.declared.item.StpItem.{StpItem}
+use Rattle.resync_grammars.specs.Names.{Place, Placed, units_of, InUnits, EndsWith, Reading, Splits, IsReading, Said}
+use Rattle.resync_grammars.specs.Names.{Notice, Kept, kept, decorate, carried, Order, Version, StpPacket, Async, Plain}
+use Rattle.resync_grammars.specs.Names.{StpItem, version_in, attribute}
 use Rattle.stp_grammar.specs.declared.item.StpItem.TheVariants.{Version as VersionItem}
 use Rattle.stp_grammar.specs.Spelling.{Spells, why}
-use Rattle.stp_grammar.specs.Attribution.{version_in, attribute}
 use Rattle.stp_codec.specs.Reading.{packets_in, items_at}
 use Rattle.resync_rules.specs.Fronts.{Hunting, IsSync, all_skipped, Locks}
 

@@ -2,14 +2,8 @@
 
 ghost use Rattle.std.specs.Prelude.{◌≡◌, ◌<◌, List, ◌++◌, None};
 ghost use Rattle.std.specs.List.{AllByRecursion};
-ghost use Rattle.trace_values.specs.declared.cell.Cell.{Cell};
-ghost use Rattle.trace_values.specs.Placed.{Placed};
-ghost use Rattle.trace_values.specs.Hunted.{pattern_of};
-ghost use Rattle.trace_values.specs.declared.reading_modes.FramesMode.{FramesMode};
-ghost use Rattle.frame_grammar.specs.Port.{Full, Spells, why};
-ghost use Rattle.port_sync.specs.Hunting.{pattern};
-ghost use Rattle.deformatter.specs.PortReading.{port_reading, cells_of};
-ghost use Rattle.resync_rules.specs.Fronts.{BeginsOnly, IsRestInWords};
+ghost use Rattle.resync_grammars.specs.Names.{Cell, Placed, pattern_of, FramesMode, Full, Spells, why, pattern};
+ghost use Rattle.resync_grammars.specs.Names.{port_reading, cells_of, BeginsOnly, IsRestInWords};
 ghost use Rattle.resync_grammars.specs.Port.{BeginsNamed, HasId, IsPortRest, rest_mode, CellsRest};
 
 /// In a list of frames and synchronisations followed by a tail, `FF FF FF 7F` is at the first byte of each full

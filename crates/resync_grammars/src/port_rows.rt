@@ -2,12 +2,8 @@
 
 ghost use Rattle.std.specs.Prelude.{◌≡◌, ◌++◌, List, [], ◌∷◌, None, Some, true, false, is_none};
 ghost use Rattle.std.specs.List.{list_any};
-ghost use Rattle.trace_values.specs.declared.cell.Cell.{Cell};
-ghost use Rattle.trace_values.specs.Placed.{Placed};
-ghost use Rattle.trace_values.specs.declared.reading_modes.FramesMode.TheVariants.{Hunt, Aligned};
-ghost use Rattle.deformatter.specs.PortReading.{port_reading, cells_of};
-ghost use Rattle.frame_grammar.specs.Port.{Full, Spells, why};
-ghost use Rattle.resync_rules.specs.Fronts.{BeginsOnly};
+ghost use Rattle.resync_grammars.specs.Names.{Cell, Placed, Hunt, Aligned, port_reading, cells_of, Full, Spells, why};
+ghost use Rattle.resync_grammars.specs.Names.{BeginsOnly};
 ghost use Rattle.resync_grammars.specs.PortRows.{whole, left, frames_of, syncs_of, end_of};
 ghost use Rattle.resync_grammars.specs.PortRows.{two_frames, three_synchronisations, packets_in_frames};
 

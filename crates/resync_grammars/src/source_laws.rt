@@ -1,19 +1,12 @@
 //! Laws of sources whose front is lost, over the definitions alone.
 
 ghost use Rattle.std.specs.Prelude.{◌≡◌, ℕ, List, ◌++◌, Bool, None};
-ghost use Rattle.trace_values.specs.Placed.{Placed, units_of};
-ghost use Rattle.trace_values.specs.Grammar.{InUnits};
-ghost use Rattle.trace_values.specs.Nibbles.{nibbles_of};
-ghost use Rattle.trace_values.specs.Hunted.{pattern_of};
-ghost use Rattle.trace_values.specs.declared.reading_modes.FramesMode.{FramesMode};
-ghost use Rattle.deformatter.specs.PortReading.{port_reading};
-ghost use Rattle.itm_grammar.specs.declared.packet.ItmPacket.TheVariants.{Sync};
+ghost use Rattle.resync_grammars.specs.Names.{Placed, units_of, InUnits, nibbles_of, pattern_of, FramesMode};
+ghost use Rattle.resync_grammars.specs.Names.{port_reading, Sync, Async, EndsOnly, IsRest, IsRestInWords};
 ghost use Rattle.itm_grammar.specs.Spelling as itm_spelling;
 ghost use Rattle.itm_codec.specs.Reading as itm_reading;
-ghost use Rattle.stp_grammar.specs.declared.packet.StpPacket.TheVariants.{Async};
 ghost use Rattle.stp_grammar.specs.Spelling as stp_spelling;
 ghost use Rattle.stp_codec.specs.Reading as stp_reading;
-ghost use Rattle.resync_rules.specs.Fronts.{EndsOnly, IsRest, IsRestInWords};
 ghost use Rattle.resync_grammars.specs.Port.{rest_mode};
 ghost use Rattle.resync_grammars.specs.Capture.{source_bytes};
 ghost use Rattle.resync_grammars.specs.Itm as itm;

@@ -2,23 +2,12 @@
 
 ghost use Rattle.std.specs.Prelude.{◌≡◌, ◌++◌, [], ◌∷◌, List, None, Some, Bool, codes, drop, true, false, replicate};
 ghost use Rattle.std.specs.List.{list_any};
-ghost use Rattle.trace_values.specs.Placed.{Place, Placed, units_of};
-ghost use Rattle.trace_values.specs.Grammar.{InUnits};
-ghost use Rattle.trace_values.specs.Stream.{Said, Notice, Kept};
-ghost use Rattle.itm_grammar.specs.declared.packet.Size.TheVariants.{Four};
-ghost use Rattle.itm_grammar.specs.declared.packet.ItmPacket.TheVariants.{Sync, Overflow, Software};
+ghost use Rattle.resync_grammars.specs.Names.{Place, Placed, units_of, InUnits, Said, Notice, Kept, Four, Sync};
+ghost use Rattle.resync_grammars.specs.Names.{Overflow, Software, packets_in, Eight, SixtyFour, Msn, Async};
+ghost use Rattle.resync_grammars.specs.Names.{None as NoStamp, Datum as DatumItem, StpItem, items_in, EndsOnly, IsRest};
 ghost use Rattle.itm_grammar.specs.Spelling as itm_spelling;
-ghost use Rattle.itm_codec.specs.Reading.{packets_in};
-ghost use Rattle.stp_grammar.specs.declared.packet.Width.TheVariants.{Eight, SixtyFour};
-ghost use Rattle.stp_grammar.specs.declared.packet.Order.TheVariants.{Msn};
-ghost use Rattle.stp_grammar.specs.declared.packet.StpPacket.TheVariants.{Async};
-ghost use Rattle.stp_grammar.specs.declared.item.Stamp.TheVariants.{None as NoStamp};
 ghost use Rattle.stp_grammar.specs.declared.item.StpItem.TheVariants.{Async as AsyncItem, Version as VersionItem};
-ghost use Rattle.stp_grammar.specs.declared.item.StpItem.TheVariants.{Datum as DatumItem};
-ghost use Rattle.stp_grammar.specs.declared.item.StpItem.{StpItem};
 ghost use Rattle.stp_grammar.specs.Spelling as stp_spelling;
-ghost use Rattle.stp_codec.specs.Reading.{items_in};
-ghost use Rattle.resync_rules.specs.Fronts.{EndsOnly, IsRest};
 ghost use Rattle.resync_grammars.specs.Stp.{OnlyInAsync};
 ghost use Rattle.resync_grammars.specs.Itm.{hunting};
 ghost use Rattle.resync_grammars.specs.SourceRows.{itm_whole, itm_left, stp_whole, stp_left, given_of, end_of, has_no_master};

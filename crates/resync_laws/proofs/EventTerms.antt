@@ -1,10 +1,7 @@
 -- Events of all sources, from each source's point on and without the notices.
 use Rattle.std.specs.Prelude.{◌≡◌, ℕ, List, [], ◌∷◌, ◌++◌, Option}
 use Rattle.std.specs.List.{filter}
-use Rattle.trace_values.specs.Placed.{Place}
-use Rattle.source_events.specs.declared.event.What.{What}
-use Rattle.source_events.specs.Report.{is_item}
-use Rattle.resync_rules.specs.Points.{is_from}
+use Rattle.resync_laws.specs.Names.{Place, What, is_item, is_from}
 
 -- each source's events only grow
 abbrev pub OnlyGrow : {X V : Type 0} → (ℕ → List X → List (What V × Place)) → Type 0

@@ -3,48 +3,27 @@ use Rattle.std.proofs.Common.{◌≡◌, ℕ, ◌+◌, ◌*◌, ◌≤◌, List,
 use Rattle.std.proofs.Common.{arith, Bool, true, false, cond, Option, None, Some}
 use Rattle.std.specs.Prelude.{◌==◌, is_none, nat_le}
 use Rattle.std.proofs.lemmas.Bool.Decides.{nat_tests}
-use Rattle.trace_values.specs.declared.cell.Cell.{Cell}
-use Rattle.trace_values.specs.Placed.{Place, Placed, placed, placed_from}
-use Rattle.trace_values.specs.Stream.{Said}
-use Rattle.frame_grammar.specs.Reading.{is_source}
-use Rattle.deformatter.specs.PortReading.{PortReading, port_reading}
+use Rattle.resync_laws.specs.Names.{Cell, Place, Placed, placed_from, Said, is_source, PortReading}
+use Rattle.resync_laws.specs.Names.{port_reading, Event, What, id_of, list_of, end_of, part, AllIn, IsAtMost, start_of}
+use Rattle.resync_laws.specs.Names.{lifted, raw_events, raws, events, lesser, of_source, least_fault, runs_in, stop_in}
+use Rattle.resync_laws.specs.Names.{report, items_of, key, is_from, is_item, AllFrom, rest_mode, FramesMode}
 use Rattle.deformatter.proofs.RisingLaws.{reading_rises}
-use Rattle.source_events.specs.declared.event.Event.{Event}
-use Rattle.source_events.specs.declared.event.What.{What}
-use Rattle.source_events.specs.Runs.{id_of, list_of, end_of}
-use Rattle.source_events.specs.Merge.{part, AllIn, IsAtMost, start_of}
-use Rattle.source_events.specs.Report.{lifted, raw_events, raws, events, lesser, of_source, least_fault}
 use Rattle.source_events.proofs.Least.{AreSound}
-use Rattle.source_events.specs.Report.{runs_in, stop_in, report}
 use Rattle.source_events.proofs.Family.{all_raw}
 use Rattle.source_events.proofs.Merges.{same_or_not, test_same, test_other}
 use Rattle.source_events.proofs.Running.{end_within}
 use Rattle.source_events.proofs.Settling.{all_sound}
 use Rattle.source_events.proofs.Growth.{no_stop}
 use Rattle.source_events.proofs.Placing.{RunsBetween, frames_between}
-use Rattle.resync_rules.specs.Points.{items_of, from_point}
-use Rattle.resync_rules.specs.Points.{key, is_from}
-use Rattle.source_events.specs.Report.{is_item}
 use Rattle.resync_laws.proofs.EventTerms.{items}
-use Rattle.resync_rules.specs.Points.{AllFrom}
 use Rattle.resync_laws.specs.FromPoints.{items_among, from_points}
 use Rattle.resync_laws.specs.Moved.{later_reading}
-use Rattle.resync_grammars.specs.Port.{rest_mode}
-use Rattle.trace_values.specs.declared.reading_modes.FramesMode.{FramesMode}
 use Rattle.resync_laws.specs.Resumed.{Resumed, rests, CanAll, IsQuietAt, PartLaw, first_named, points_in, port_of}
-use Rattle.resync_laws.proofs.ReportTerms.{AllRead, AreQuiet, ExactLaw}
+use Rattle.resync_laws.proofs.ReportTerms.{AllRead, AreQuiet}
 use Rattle.resync_laws.proofs.Listing.{lifted_items, grow, list_rises, list_bytes}
-use Rattle.resync_laws.proofs.Merging.{all_from_points, part_from_points}
+use Rattle.resync_laws.proofs.Merging.{part_from_points}
 use Rattle.resync_laws.proofs.Reporting.{rest_laws, report_items}
 use Rattle.resync_laws.proofs.RestReport.{rest_law, from_start}
-
--- what is taken from a point on is from there on
-from_all : {V : Type 0} (o : Option Place) (xs : List (Said V × Place)) → AllFrom o (from_point o xs)
-from_all o [] = tt
-from_all o (x ∷ xs) = by (is_from o x.1) refl (from_all o xs) where
-  by : (b : Bool) → is_from o x.1 ≡ b → AllFrom o (from_point o xs) → AllFrom o (cond b (x ∷ from_point o xs) (from_point o xs))
-  by true e h = (e, h)
-  by false e h = h
 
 lifted_all : {V : Type 0} (o : Option Place) (xs : List (Said V × Place)) → AllFrom o xs → AllFrom o (lifted xs)
 lifted_all o [] h = tt
@@ -128,15 +107,6 @@ module _ {V : Type 0} where
       let least : least_fault (rests ps) (runs_in r) ≡ None = sym (ap (λ (o : Option _). lesser (of_source None o) (least_fault (rests ps) (runs_in r))) none) ∙ e in
       all_sound (runs_in r) [] hi b tt (rests ps) least
 
-  all_items : {K : Type 0} (ps : List (Resumed K V)) → CanAll ps → AreQuiet ps → (mode : FramesMode) (u : List Placed) (hi : ℕ) → RunsBetween 0 hi (runs_in (port_reading mode u)) → stop_in (rests ps) (port_reading mode u) ≡ None →
-      from_points (points_in ps (runs_in (port_reading mode u))) (items_among (report (rests ps) mode u)) ≡ items_among (report (rests ps) mode u)
-  all_items ps can quiet mode u hi b e =
-      let r = port_reading mode u in
-      let sound = sound_in ps r hi b e in
-      ap (from_points (points_in ps (runs_in r))) (report_items (rests ps) mode u e)
-      ∙ all_from_points (points_in ps (runs_in r)) id_of (events (rests ps)) (grow (rests ps) (rest_laws ps can)) (runs_in r) [] (λ x. sources_all ps can x (quiet_at ps quiet x) (runs_in r) hi b sound)
-      ∙ sym (report_items (rests ps) mode u e)
-
   part_items : {K : Type 0} (ps : List (Resumed K V)) → CanAll ps → (x : ℕ) → IsQuietAt ps x → (mode : FramesMode) (u : List Placed) (hi : ℕ) → RunsBetween 0 hi (runs_in (port_reading mode u)) → stop_in (rests ps) (port_reading mode u) ≡ None →
       part (Some x) (from_points (points_in ps (runs_in (port_reading mode u))) (items_among (report (rests ps) mode u))) ≡ part (Some x) (items_among (report (rests ps) mode u))
   part_items ps can x quiet mode u hi b e =
@@ -149,19 +119,6 @@ module _ {V : Type 0} where
   no_words : {K : Type 0} (ps : List (Resumed K V)) → AllRead (λ k u w. Unit {0}) ps
   no_words [] = tt
   no_words (p ∷ ps) = ((λ u w e. tt), no_words ps)
-
-  pub exact_law : {K : Type 0} (ps : List (Resumed K V)) → CanAll ps → AreQuiet ps → ExactLaw ps
-  exact_law ps can quiet mode lost bytes e =
-      let f = rest_law (λ k u w. Unit {0}) ps can (no_words ps) mode lost bytes e in
-      let c = length lost in
-      let w = placed_from c bytes in
-      let es = report (rests ps) (rest_mode mode) (placed bytes) in
-      let b = frames_between (port_reading (rest_mode mode) w).frames 0 (c + length bytes) (reading_rises (rest_mode mode) w 0 (c + length bytes) (from_start bytes c)) in
-      let all = all_items ps can quiet (rest_mode mode) w (c + length bytes) b f.follows.sound in
-      let points = points_in ps (runs_in (later_reading c (port_of (rest_mode mode) bytes))) in
-      let same : points ≡ points_in ps (runs_in (port_reading (rest_mode mode) w)) = ap (λ (q : PortReading). points_in ps (runs_in q)) (sym f.reading) in
-      ap items_among (sym f.events) ∙ sym all ∙ ap (λ (q : ℕ → Option Place). from_points q (items_among (report (rests ps) (rest_mode mode) w))) (sym same)
-      ∙ ap (λ (l : List (Event V)). from_points points (items_among l)) f.events ∙ f.items
 
   pub part_law : {K : Type 0} (ps : List (Resumed K V)) → CanAll ps → PartLaw ps
   part_law ps can x quiet mode lost bytes e =

@@ -1,10 +1,7 @@
 -- A source whose packets are some of a greater type, as those of each kind of source are.
-use Rattle.trace_values.specs.Decorated.{decorated}
+use Rattle.resync_laws.specs.Names.{decorated, Place, Stream, stream_as}
 use Rattle.resync_rules.proofs.ItemTerms.{first_item}
 use Rattle.std.specs.Prelude.{Bool, Option}
-use Rattle.trace_values.specs.Placed.{Place}
-use Rattle.trace_values.specs.Stream.{Stream}
-use Rattle.source_events.specs.Packets.{stream_as}
 use Rattle.resync_laws.specs.Resumed.{Resumed}
 
 abbrev pub resumed_as : {K L V W : Type 0} → (K → L) → (V → W) → (Stream W → Option Place) → Resumed K V → Resumed L W

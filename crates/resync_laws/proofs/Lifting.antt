@@ -1,33 +1,12 @@
 -- A source that can resume still can where its packets are some of a greater type.
 use Rattle.std.proofs.Common.{◌≡◌, ℕ, List, [], ◌∷◌, ◌++◌, map, refl, sym, ◌∙◌, ap, Bool, true, false, cond, Option}
-use Rattle.std.proofs.lemmas.List.{map-append}
-use Rattle.trace_values.specs.Placed.{Place, Placed}
-use Rattle.trace_values.specs.Stream.{Stream, Said, Notice, Kept, kept, AllAt}
-use Rattle.source_events.specs.Report.{IsLawful}
-use Rattle.resync_rules.specs.Points.{items_of, from_point}
-use Rattle.resync_rules.specs.Points.{is_from}
-use Rattle.resync_rules.specs.Moved.{later_place}
-use Rattle.resync_rules.specs.Moved.{later_stream}
-use Rattle.source_events.specs.Packets.{said_as, given_as, stream_as}
+use Rattle.resync_laws.specs.Names.{Place, Stream, Said, Notice, Kept, items_of}
+use Rattle.resync_laws.specs.Names.{from_point, is_from, later_place, later_stream, said_as, given_as, stream_as}
+use Rattle.source_events.proofs.Lawful.{lawful_as}
 use Rattle.resync_laws.proofs.LiftTerms.{resumed_as}
 use Rattle.resync_laws.specs.Resumed.{Resumed, CanResume}
 
 module _ {V W : Type 0} (f : V → W) where
-  all_as : (at half : ℕ) (xs : List (Said V × Place)) → AllAt at half xs → AllAt at half (given_as f xs)
-  all_as at half [] h = tt
-  all_as at half (x ∷ xs) h = (h.0, h.1, all_as at x.1.half xs h.2)
-
-  given_append : (xs ys : List (Said V × Place)) → given_as f (xs ++ ys) ≡ given_as f xs ++ given_as f ys
-  given_append xs ys = map-append (λ (x : Said V × Place). (said_as f x.0, x.1)) xs ys
-
-  lawful_as : (stream : List Placed → Stream V) → IsLawful stream → IsLawful (λ u. stream_as f (stream u))
-  lawful_as stream law = record {
-    begins = ap (given_as f) law.begins;
-    sound = law.sound;
-    rises = λ u at byte. (let r = law.rises u at byte in record { more = given_as f r.more; given = ap (given_as f) r.given ∙ given_append (stream u).given r.more; all = all_as at 0 r.more r.all; fault = r.fault });
-    settles = λ u w e. (let s = law.settles u w e in record { given = ap (given_as f) s.given; fault = s.fault });
-  }
-
   items_as : (xs : List (Said V × Place)) → items_of (given_as f xs) ≡ given_as f (items_of xs)
   items_as [] = refl
   items_as ((Notice n, at) ∷ xs) = items_as xs
@@ -40,18 +19,14 @@ module _ {V W : Type 0} (f : V → W) where
     by true k = ap (λ (l : List (Said W × Place)). (said_as f x.0, x.1) ∷ l) k
     by false k = k
 
-  kept_as : (xs : List (V × Place)) → kept (map (λ x. (f x.0, x.1)) xs) ≡ given_as f (kept xs)
-  kept_as [] = refl
-  kept_as (x ∷ xs) = ap (λ (l : List (Said W × Place)). (Kept (f x.0), x.1) ∷ l) (kept_as xs)
-
   later_as : (c : ℕ) (g : List (Said V × Place)) → given_as f (map (λ x. (x.0, later_place c x.1)) g) ≡ map (λ x. (x.0, later_place c x.1)) (given_as f g)
   later_as c [] = refl
   later_as c (x ∷ g) = ap (λ (l : List (Said W × Place)). (said_as f x.0, later_place c x.1) ∷ l) (later_as c g)
 
   pub can_as : {K L : Type 0} (kind : K → L) (point : Stream W → Option Place) (p : Resumed K V) → ((s : Stream V) → point (stream_as f s) ≡ p.point s) → CanResume p → CanResume (resumed_as kind f point p)
   can_as kind point p same can = record {
-    whole_lawful = lawful_as (λ u. p.whole (p.units u)) can.whole_lawful;
-    rest_lawful = lawful_as (λ u. p.rest (p.units u)) can.rest_lawful;
+    whole_lawful = lawful_as f (λ u. p.whole (p.units u)) can.whole_lawful;
+    rest_lawful = lawful_as f (λ u. p.rest (p.units u)) can.rest_lawful;
     append = can.append;
     rising = can.rising;
     shifts = can.shifts;

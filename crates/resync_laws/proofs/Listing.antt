@@ -5,24 +5,16 @@ use Rattle.std.proofs.lemmas.Grind.{flat_map-append}
 use Rattle.std.proofs.lemmas.List.{map-append}
 use Rattle.std.proofs.lemmas.List.Elements.{filter-append}
 use Rattle.std.proofs.lemmas.Bool.Decides.{nat_tests}
-use Rattle.trace_values.specs.declared.cell.Cell.{Cell}
-use Rattle.trace_values.specs.Placed.{Place, Placed, byte_at}
-use Rattle.trace_values.specs.Stream.{Stream, Said, Notice, Kept, Rises}
-use Rattle.frame_grammar.specs.Reading.{is_source}
-use Rattle.source_events.specs.declared.event.What.{What}
-use Rattle.source_events.specs.declared.event.What.TheVariants.{Raw, Trigger}
-use Rattle.source_events.specs.Runs.{id_of, bytes_of, placed_run, last_at, IsRunFrom, end_of, list_of}
-use Rattle.source_events.specs.Merge.{AllIn, start_of}
-use Rattle.source_events.specs.Report.{Mapped, AreLawful, what_of, lifted, triggers, raw_events, raws, events}
+use Rattle.resync_laws.specs.Names.{Cell, Place, Placed, byte_at, Stream, Said, Notice, Kept, Rises, is_source, What}
+use Rattle.resync_laws.specs.Names.{Raw, Trigger, id_of, bytes_of, placed_run, last_at, IsRunFrom, end_of, list_of}
+use Rattle.resync_laws.specs.Names.{AllIn, start_of, Mapped, AreLawful, what_of, lifted, triggers, raw_events, raws}
+use Rattle.resync_laws.specs.Names.{events, Between, items_of, from_point, key, is_from, is_item}
 use Rattle.source_events.proofs.Placing.{RunsBetween}
 use Rattle.source_events.proofs.Least.{AreSound}
 use Rattle.source_events.proofs.Merges.{test_same, test_other, same_or_not}
 use Rattle.source_events.proofs.Family.{all_raw, of_cases, list_own, list_other}
 use Rattle.source_events.proofs.Running.{end_within}
 use Rattle.resync_laws.proofs.RunTerms.{unnamed_run}
-use Rattle.resync_rules.specs.Points.{Between, items_of, from_point}
-use Rattle.resync_rules.specs.Points.{key, is_from}
-use Rattle.source_events.specs.Report.{is_item}
 use Rattle.resync_laws.proofs.EventTerms.{OnlyGrow, items, told_from, EachFollows}
 use Rattle.resync_laws.specs.Resumed.{Resumed, wholes, rests, AreBytes, CanAll, first_named, points_in}
 use Rattle.resync_laws.proofs.Sources.{one_follows}

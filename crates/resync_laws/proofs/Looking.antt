@@ -5,31 +5,14 @@ use Rattle.std.specs.Prelude.{Option, None, Some, ◌==◌, ◌||◌}
 use Rattle.std.specs.List.{list_any}
 use Rattle.std.proofs.lemmas.Bool.Decides.{nat_tests}
 use Rattle.std.proofs.lemmas.Bool.{eqb-true}
-use Rattle.trace_values.specs.declared.cell.Cell.{Cell}
-use Rattle.trace_values.specs.Placed.{Place, Placed}
-use Rattle.trace_values.specs.Stream.{Said, Notice, Kept}
-use Rattle.trace_values.specs.declared.reading_modes.FramesMode.{FramesMode}
-use Rattle.frame_grammar.specs.SourceBytes.{source_units}
-use Rattle.deformatter.specs.PortReading.{port_reading, cells_of}
+use Rattle.resync_laws.specs.Names.{Cell, Place, Placed, Said, Notice, Kept, FramesMode, source_units, port_reading}
+use Rattle.resync_laws.specs.Names.{cells_of, packets_in, StpItem, Version, items_in, Event, Packet, Plan, SourceKind}
+use Rattle.resync_laws.specs.Names.{Itm, Stp, place_of, given_as, stream_of, kind_of, sources_by, Mapped, runs_in}
+use Rattle.resync_laws.specs.Names.{list_of, point_in, is_from}
 use Rattle.deformatter.proofs.PortReadingLaws.{frames_have_runs}
-use Rattle.itm_codec.specs.Reading.{packets_in}
-use Rattle.stp_grammar.specs.declared.item.StpItem.{StpItem}
-use Rattle.stp_grammar.specs.declared.item.StpItem.TheVariants.{Version}
-use Rattle.stp_codec.specs.Reading.{items_in}
-use Rattle.source_events.specs.declared.event.Event.{Event}
-use Rattle.source_events.specs.declared.packet.Packet.{Packet}
 use Rattle.source_events.specs.declared.packet.Packet.TheVariants.{Itm as ItmPacket, Stp as StpPacket}
-use Rattle.source_events.specs.declared.plan.Plan.{Plan}
-use Rattle.source_events.specs.declared.plan.SourceKind.{SourceKind}
-use Rattle.source_events.specs.declared.plan.SourceKind.TheVariants.{Itm, Stp}
-use Rattle.source_events.specs.Merge.{place_of}
-use Rattle.source_events.specs.Packets.{given_as}
-use Rattle.source_events.specs.Plan.{stream_of, kind_of, sources_by}
-use Rattle.source_events.specs.Report.{Mapped, runs_in}
-use Rattle.source_events.specs.Runs.{list_of}
 use Rattle.source_events.proofs.Least.{AreSound}
 use Rattle.source_events.proofs.RunNumbers.{lists_are}
-use Rattle.resync_rules.specs.Points.{point_in, is_from}
 use Rattle.resync_laws.specs.Points.{first_version, point_by, point_of}
 use Rattle.resync_laws.specs.FromPoints.{first_in, point_at, from_points}
 use Rattle.resync_rules.proofs.ItemTerms.{first_item}

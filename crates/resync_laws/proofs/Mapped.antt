@@ -4,12 +4,10 @@ use Rattle.std.specs.Prelude.{Option, None, Some, ◌==◌, ◌||◌}
 use Rattle.std.specs.Option.{is_some}
 use Rattle.std.specs.List.{list_any}
 use Rattle.trace_values.proofs.NibbleModes.{nibbles_append}
-use Rattle.trace_values.specs.Placed.{Place, Placed, units_of}
+use Rattle.resync_laws.specs.Names.{Place, Placed, units_of, nibbles_of, Said, Notice, Kept, packets_hunt, Sync}
+use Rattle.resync_laws.specs.Names.{None as NoStamp, StpItem, Packet, Plan, SourceKind, Itm, Stp, given_as, mapped_ids}
+use Rattle.resync_laws.specs.Names.{stream_of, sources_by, Mapped, items_of, point_of, point_in, AllFrom}
 use Rattle.trace_values.specs.Grammar.{InUnits}
-use Rattle.trace_values.specs.Nibbles.{nibbles_of}
-use Rattle.trace_values.specs.Stream.{Said, Notice, Kept}
-use Rattle.trace_values.specs.ReadingModes.{packets_hunt}
-use Rattle.itm_grammar.specs.declared.packet.ItmPacket.TheVariants.{Sync}
 use Rattle.itm_grammar.specs.declared.partial.Partial.TheVariants.{Header}
 use Rattle.itm_grammar.specs.Spelling as itm
 use Rattle.itm_grammar.specs.Rule as itm_rule
@@ -21,8 +19,6 @@ use Rattle.stp_grammar.specs.declared.packet.StpPacket.TheVariants.{Async, Plain
 use Rattle.stp_grammar.specs.declared.partial.Partial.TheVariants.{Start}
 use Rattle.stp_grammar.specs.declared.item.Place.{Place as Origin}
 use Rattle.stp_grammar.specs.declared.item.Stamp.{Stamp}
-use Rattle.stp_grammar.specs.declared.item.Stamp.TheVariants.{None as NoStamp}
-use Rattle.stp_grammar.specs.declared.item.StpItem.{StpItem}
 use Rattle.stp_grammar.specs.Opcodes.{line_of}
 use Rattle.stp_grammar.specs.Shortest.{IsByRow}
 use Rattle.stp_grammar.specs.Spelling as stp
@@ -30,14 +26,7 @@ use Rattle.stp_grammar.specs.Rule as stp_rule
 use Rattle.stp_grammar.specs.Attribution.{begins_master, place_of, stamp_of, item_with, attribute}
 use Rattle.stp_grammar.proofs.ShortSpellings.{by_row}
 use Rattle.stp_codec.specs.Reading as stp_reading
-use Rattle.source_events.specs.declared.packet.Packet.{Packet}
 use Rattle.source_events.specs.declared.packet.Packet.TheVariants.{Itm as ItmPacket, Stp as StpPacketOf}
-use Rattle.source_events.specs.declared.plan.Plan.{Plan}
-use Rattle.source_events.specs.declared.plan.SourceKind.{SourceKind}
-use Rattle.source_events.specs.declared.plan.SourceKind.TheVariants.{Itm, Stp}
-use Rattle.source_events.specs.Packets.{given_as}
-use Rattle.source_events.specs.Plan.{mapped_ids, stream_of, sources_by}
-use Rattle.source_events.specs.Report.{Mapped}
 use Rattle.source_events.proofs.Merges.{test_same}
 use Rattle.source_events.proofs.Lawful.{itm_lawful, stp_lawful}
 use Rattle.resync_grammars.proofs.ItmSyncing.{itm_syncs}
@@ -45,9 +34,6 @@ use Rattle.resync_grammars.proofs.StpSyncing.{stp_syncs}
 use Rattle.resync_grammars.proofs.StpItems.{Alike, alike_push, alike_anew, item_alike, version_cases}
 use Rattle.resync_grammars.proofs.Captures.{itm_rest}
 use Rattle.resync_grammars.proofs.StpResting.{is_items_rest}
-use Rattle.resync_rules.specs.Points.{items_of, point_of}
-use Rattle.resync_rules.specs.Points.{point_in}
-use Rattle.resync_rules.specs.Points.{AllFrom}
 use Rattle.resync_rules.proofs.ItemTerms.{first_item, IsMarked, BeginsAnew}
 use Rattle.resync_laws.specs.Resumed.{wholes, rests, CanResume, CanAll, IsQuiet, IsQuietAt}
 use Rattle.resync_laws.proofs.ReportTerms.{AllRead}

@@ -2,16 +2,11 @@
 use Rattle.std.proofs.Common.{◌≡◌, ℕ, List, [], ◌∷◌, ◌++◌, length, drop, map, refl, sym, ◌∙◌, ap, subst, inl, inr, append_assoc, append-nil, Bool, true, false, cond, Option, None, Some}
 use Rattle.std.proofs.lemmas.List.{append_cancel_left}
 use Rattle.std.proofs.lemmas.List.Elements.{filter-append}
-use Rattle.trace_values.specs.Placed.{Place}
-use Rattle.resync_rules.specs.Points.{is_from}
-use Rattle.source_events.specs.declared.event.Event.{Event}
-use Rattle.source_events.specs.declared.event.What.{What}
-use Rattle.source_events.specs.Merge.{told, grown, merged_from, place_of, is_of, part}
+use Rattle.resync_laws.specs.Names.{Place, is_from, Event, What, told, grown, merged_from, place_of, is_of, part}
+use Rattle.resync_laws.specs.Names.{is_item, AllFrom}
 use Rattle.std.specs.Prelude.{◌==◌}
 use Rattle.source_events.proofs.Merges.{same_or_not, test_other}
-use Rattle.source_events.specs.Report.{is_item}
 use Rattle.resync_laws.proofs.EventTerms.{OnlyGrow, items, told_from, EachFollows}
-use Rattle.resync_rules.specs.Points.{AllFrom}
 use Rattle.resync_laws.specs.FromPoints.{point_at, items_among, from_points}
 
 from_left : {W : Type 0} (o : Option Place) (xs ys : List (W × Place)) → AllFrom o (xs ++ ys) → AllFrom o xs

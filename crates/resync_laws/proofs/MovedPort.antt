@@ -4,20 +4,14 @@ use Rattle.std.specs.Prelude.{◌==◌}
 use Rattle.std.specs.List.{sum_by}
 use Rattle.std.proofs.lemmas.List.{map-append, length-map}
 use Rattle.std.proofs.lemmas.List.Sums.{sum_by-append}
-use Rattle.trace_values.specs.declared.fault.Reason.{Reason}
-use Rattle.trace_values.specs.declared.fault.Reason.TheVariants.{BadSync, SyncInFrame}
-use Rattle.trace_values.specs.declared.next.Next.{Next}
+use Rattle.resync_laws.specs.Names.{Reason, BadSync, SyncInFrame, Next, Place, Placed, Progress, progress, halves_in}
+use Rattle.resync_laws.specs.Names.{later_place, later_fault, later}
 use Rattle.trace_values.specs.declared.next.Next.TheVariants.{Go, End, Fail}
 use Rattle.resync_rules.proofs.Moving.{moved, move, move_found, progress_moved, hunt_moved}
-use Rattle.trace_values.specs.Placed.{Place, Placed}
-use Rattle.trace_values.specs.Reading.{Progress, progress}
 use Rattle.trace_values.specs.Hunted.{Found, Hunt, hunt}
 use Rattle.frame_grammar.specs.Port.{PortItem, Full, Half, Frame, Part, Between, First, One, Two, Three, State, start, word_ended, part_rule, rule}
-use Rattle.frame_grammar.specs.Reading.{halves_in}
 use Rattle.port_sync.specs.Hunting.{pattern}
 use Rattle.deformatter.specs.Reading.{PortStream, items_of, read_after, port_hunted, port_stream}
-use Rattle.resync_rules.specs.Moved.{later_place, later_fault}
-use Rattle.resync_rules.specs.Moved.{later}
 use Rattle.resync_laws.proofs.MovedTerms.{later_item, later_port}
 
 -- the port

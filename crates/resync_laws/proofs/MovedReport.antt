@@ -5,30 +5,20 @@ use Rattle.std.specs.Prelude.{◌==◌, slice_index}
 use Rattle.std.specs.List.{sum_by}
 use Rattle.std.proofs.lemmas.List.{map-append, length-map}
 use Rattle.std.proofs.lemmas.List.Sums.{sum_by-append}
-use Rattle.trace_values.specs.declared.cell.Cell.{Cell}
-use Rattle.trace_values.specs.Placed.{Place, Placed, byte_at, placed_from, units_of}
-use Rattle.trace_values.specs.Reading.{Splits}
-use Rattle.trace_values.specs.Stream.{Stream, Said}
+use Rattle.resync_laws.specs.Names.{Cell, Place, Placed, byte_at, placed_from, units_of, Splits, Stream, Said}
+use Rattle.resync_laws.specs.Names.{FramesMode, Hunt, Aligned, Bare, names, cell, even_data, even_cells, odd_cells}
+use Rattle.resync_laws.specs.Names.{cells_below, cells, id_after, PortItem, Full, Half, Frame, Spells, why, rule, start}
+use Rattle.resync_laws.specs.Names.{frames_of_items, framed, bare_cell, bare, port_reading, Event, What, Raw, Trigger}
+use Rattle.resync_laws.specs.Names.{joined, runs_of, all_runs, id_of, bytes_of, placed_run, last_at, list_of, told}
+use Rattle.resync_laws.specs.Names.{grown, merged_from, what_of, lifted, triggers, raw_events, raws, events, all_events}
+use Rattle.resync_laws.specs.Names.{later_place, later}
 use Rattle.trace_values.proofs.Readings as readings
-use Rattle.trace_values.specs.declared.reading_modes.FramesMode.{FramesMode}
-use Rattle.trace_values.specs.declared.reading_modes.FramesMode.TheVariants.{Hunt, Aligned, Bare}
-use Rattle.frame_grammar.specs.Frame.{names, cell, even_data, even_cells, odd_cells, cells_below, cells, id_after}
-use Rattle.frame_grammar.specs.Port.{PortItem, Full, Half, Frame, Spells, why, rule, start}
 use Rattle.frame_grammar.specs.Reading.{offsets_of, item_id, fulls_in, is_source, port_reading as grammar_reading}
 use Rattle.frame_grammar.proofs.Deciding.{port_decided}
 use Rattle.frame_grammar.proofs.Items.{frame_bytes}
 use Rattle.deformatter.specs.Reading.{PortStream, port_stream, items_of}
 use Rattle.deformatter.proofs.Readings.{hunt_is}
-use Rattle.deformatter.specs.PortReading.{frames_of_items, framed, bare_cell, bare, port_reading}
-use Rattle.source_events.specs.declared.event.Event.{Event}
-use Rattle.source_events.specs.declared.event.What.{What}
-use Rattle.source_events.specs.declared.event.What.TheVariants.{Raw, Trigger}
-use Rattle.source_events.specs.Runs.{joined, runs_of, all_runs, id_of, bytes_of, placed_run, last_at, list_of}
-use Rattle.source_events.specs.Merge.{told, grown, merged_from}
-use Rattle.source_events.specs.Report.{what_of, lifted, triggers, raw_events, raws, events, all_events}
-use Rattle.resync_rules.specs.Moved.{later_place}
 use Rattle.resync_laws.specs.Moved.{later_cell, later_run, later_reading, later_event}
-use Rattle.resync_rules.specs.Moved.{later}
 use Rattle.resync_laws.proofs.MovedTerms.{later_item, later_port}
 use Rattle.resync_laws.specs.Resumed.{Resumed, rests, CanAll}
 use Rattle.resync_laws.proofs.MovedPort.{port_later}

@@ -1,8 +1,6 @@
 -- What a port reads at later offsets.
 use Rattle.std.specs.Prelude.{ℕ, map}
-use Rattle.frame_grammar.specs.Port.{PortItem, Full, Half, Frame}
-use Rattle.deformatter.specs.Reading.{PortStream}
-use Rattle.resync_rules.specs.Moved.{later_place, later_fault, later}
+use Rattle.resync_laws.specs.Names.{PortItem, Full, Half, Frame, PortStream, later_place, later_fault, later}
 
 abbrev pub later_item : ℕ → PortItem → PortItem
 later_item c Full = Full

@@ -1,12 +1,8 @@
 -- Nibbles of bytes: they append, rise, and move to later offsets as the bytes do.
 use Rattle.std.proofs.Common.{◌≡◌, ℕ, suc, ◌+◌, ◌*◌, ◌≤◌, List, [], ◌∷◌, map, refl, ap, arith}
 use Rattle.std.specs.Prelude.{◌/◌, ◌%◌}
-use Rattle.trace_values.specs.Placed.{Placed}
-use Rattle.resync_rules.specs.Points.{Between, IsRising}
-use Rattle.resync_rules.specs.Points.{key}
-use Rattle.resync_rules.specs.Moved.{later}
+use Rattle.resync_laws.specs.Names.{Placed, Between, IsRising, key, later, nibbles_of}
 use Rattle.resync_laws.specs.Resumed.{AreBytes}
-use Rattle.trace_values.specs.Nibbles.{nibbles_of}
 
 abbrev low : Placed → Placed
 low b = record { unit = b.unit % 16; place = record { at = b.place.at; half = 0 } }

@@ -1,23 +1,9 @@
 -- What a plan maps, where the front of a capture is lost.
 use Rattle.std.specs.Prelude.{ℕ, List, map, Bool, true, false}
-use Rattle.trace_values.specs.Placed.{Placed}
-use Rattle.trace_values.specs.Nibbles.{nibbles_of}
-use Rattle.trace_values.specs.ReadingModes.{packets_hunt}
-use Rattle.itm_codec.specs.Reading.{packets_in}
-use Rattle.stp_grammar.specs.declared.item.StpItem.{StpItem}
-use Rattle.stp_grammar.specs.declared.item.StpItem.TheVariants.{Version}
-use Rattle.stp_codec.specs.Reading.{items_at}
-use Rattle.source_events.specs.declared.packet.Packet.{Packet}
+use Rattle.resync_laws.specs.Names.{Placed, nibbles_of, packets_hunt, packets_in, StpItem, Version, items_at, Packet}
+use Rattle.resync_laws.specs.Names.{Plan, SourceKind, Itm, Stp, stream_as, mapped_ids, IsRest, IsItemsRest, point_of}
 use Rattle.source_events.specs.declared.packet.Packet.TheVariants.{Itm as ItmPacket, Stp as StpPacket}
-use Rattle.source_events.specs.declared.plan.Plan.{Plan}
-use Rattle.source_events.specs.declared.plan.SourceKind.{SourceKind}
-use Rattle.source_events.specs.declared.plan.SourceKind.TheVariants.{Itm, Stp}
-use Rattle.source_events.specs.Packets.{stream_as}
-use Rattle.source_events.specs.Plan.{mapped_ids}
-use Rattle.resync_rules.specs.Fronts.{IsRest}
 use Rattle.resync_grammars.specs.Itm as itm
-use Rattle.resync_grammars.specs.Stp.{IsItemsRest}
-use Rattle.resync_rules.specs.Points.{point_of}
 use Rattle.resync_rules.proofs.ItemTerms.{first_item}
 use Rattle.resync_laws.specs.Resumed.{Resumed}
 

@@ -4,12 +4,9 @@ use Rattle.std.proofs.Common.{false, cond, Option, None, Some}
 use Rattle.std.specs.Prelude.{◌==◌, is_none}
 use Rattle.std.specs.List.{flat_map, Contains}
 use Rattle.std.proofs.lemmas.Bool.{eqb-true}
-use Rattle.trace_values.specs.declared.cell.Cell.{Cell}
-use Rattle.trace_values.specs.Placed.{Place}
-use Rattle.deformatter.specs.PortReading.{port_reading}
+use Rattle.resync_laws.specs.Names.{Cell, Place, port_reading, joined, runs_of, all_runs}
 use Rattle.deformatter.specs.Runs.{HaveRuns}
 use Rattle.deformatter.proofs.PortReadingLaws.{frames_have_runs}
-use Rattle.source_events.specs.Runs.{joined, runs_of, all_runs}
 use Rattle.resync_laws.specs.Resumed.{first_named, PortPointLaw}
 use Rattle.resync_laws.specs.FromPoints.{first_in}
 use Rattle.resync_laws.proofs.RunsLater.{begins}

@@ -1,21 +1,13 @@
 -- From a grammar that synchronises to a source that can resume: as it is, and with its packets made into items.
 use Rattle.std.proofs.Common.{◌≡◌, ℕ, List, [], ◌∷◌, ◌++◌, length, map, sym, ◌∙◌, ap, subst, inl, inr, append-nil, Bool, true, Option, None}
-use Rattle.trace_values.specs.declared.fault.Reason.{Reason}
-use Rattle.trace_values.specs.declared.next.Next.{Next}
-use Rattle.trace_values.specs.Placed.{Place, Placed}
+use Rattle.resync_laws.specs.Names.{Reason, Next, Place, Placed, Splits, progress, decorated, Stream, Said, kept}
+use Rattle.resync_laws.specs.Names.{IsLawful, Hunting, IsRest, IsRising, items_of, point_of, from_point, Follows}
+use Rattle.resync_laws.specs.Names.{AllFrom, later, later_stream}
 use Rattle.trace_values.specs.Walk.{by_unit}
-use Rattle.trace_values.specs.Reading.{Splits, progress}
 use Rattle.trace_values.specs.declared.pattern.Pattern.{Pattern}
 use Rattle.trace_values.specs.Moded.{stream_in}
-use Rattle.trace_values.specs.Decorated.{decorated}
-use Rattle.trace_values.specs.Stream.{Stream, Said, kept}
 use Rattle.trace_values.proofs.Readings as readings
-use Rattle.source_events.specs.Report.{IsLawful}
-use Rattle.resync_rules.specs.Fronts.{Hunting, IsRest}
 use Rattle.resync_rules.specs.Syncing.{Syncs}
-use Rattle.resync_rules.specs.Points.{IsRising, items_of, point_of, from_point, Follows}
-use Rattle.resync_rules.specs.Points.{AllFrom}
-use Rattle.resync_rules.specs.Moved.{later, later_stream}
 use Rattle.resync_laws.specs.Resumed.{Resumed, AreBytes, CanResume, IsQuiet}
 use Rattle.resync_rules.proofs.ItemTerms.{AllFit, BeginsAnew}
 use Rattle.resync_laws.proofs.LiftTerms.{resumed_made}

@@ -1,28 +1,16 @@
 -- The report of a plan's rest follows that of its whole.
 use Rattle.std.proofs.Common.{◌≡◌, ℕ, ◌+◌, List, [], ◌++◌, length, map, sym, ◌∙◌, ap, None}
 use Rattle.std.specs.Prelude.{Option, Some}
-use Rattle.trace_values.specs.Placed.{Place, Placed, placed}
+use Rattle.resync_laws.specs.Names.{Place, Placed, placed, FramesMode, packets_hunt, packets_in, items_in, PortReading}
+use Rattle.resync_laws.specs.Names.{port_reading, Event, Packet, Plan, SourceKind, Itm, Stp, part, kind_of, sources_by}
+use Rattle.resync_laws.specs.Names.{Mapped, lesser, of_source, least_fault, runs_in, stop_in, report, rest_mode}
+use Rattle.resync_laws.specs.Names.{source_bytes}
 use Rattle.trace_values.proofs.Placing.{placed_append}
-use Rattle.trace_values.specs.declared.reading_modes.FramesMode.{FramesMode}
-use Rattle.trace_values.specs.ReadingModes.{packets_hunt}
-use Rattle.itm_codec.specs.Reading.{packets_in}
-use Rattle.stp_codec.specs.Reading.{items_in}
-use Rattle.deformatter.specs.PortReading.{PortReading, port_reading}
 use Rattle.deformatter.proofs.RisingLaws.{placed_rise, reading_rises}
-use Rattle.source_events.specs.declared.event.Event.{Event}
-use Rattle.source_events.specs.declared.packet.Packet.{Packet}
-use Rattle.source_events.specs.declared.plan.Plan.{Plan}
-use Rattle.source_events.specs.declared.plan.SourceKind.{SourceKind}
-use Rattle.source_events.specs.declared.plan.SourceKind.TheVariants.{Itm, Stp}
-use Rattle.source_events.specs.Merge.{part}
-use Rattle.source_events.specs.Plan.{kind_of, sources_by}
-use Rattle.source_events.specs.Report.{Mapped, lesser, of_source, least_fault, runs_in, stop_in, report}
 use Rattle.source_events.proofs.Growth.{no_stop}
 use Rattle.source_events.proofs.Least.{AreSound}
 use Rattle.source_events.proofs.Placing.{frames_between}
 use Rattle.source_events.proofs.Settling.{all_sound}
-use Rattle.resync_grammars.specs.Port.{rest_mode}
-use Rattle.resync_grammars.specs.Capture.{source_bytes}
 use Rattle.resync_grammars.proofs.Captures.{itm_capture, stp_capture}
 use Rattle.resync_laws.specs.Moved.{later_event, later_reading}
 use Rattle.resync_laws.specs.FromPoints.{items_among, from_points}

@@ -1,13 +1,7 @@
 -- The report of the rest of a capture, against the whole's, for any sources that can resume.
 use Rattle.std.specs.Prelude.{◌≡◌, ℕ, List, [], ◌∷◌, ◌++◌, length, map, true, None}
-use Rattle.trace_values.specs.declared.cell.Cell.{Cell}
-use Rattle.trace_values.specs.Placed.{Placed, placed, placed_from}
-use Rattle.trace_values.specs.declared.reading_modes.FramesMode.{FramesMode}
-use Rattle.deformatter.specs.PortReading.{port_reading}
-use Rattle.source_events.specs.declared.event.Event.{Event}
-use Rattle.source_events.specs.Runs.{list_of}
-use Rattle.source_events.specs.Report.{runs_in, stop_in, report}
-use Rattle.resync_grammars.specs.Port.{IsPortRest, rest_mode}
+use Rattle.resync_laws.specs.Names.{Cell, Placed, placed, placed_from, FramesMode, port_reading, Event, list_of}
+use Rattle.resync_laws.specs.Names.{runs_in, stop_in, report, IsPortRest, rest_mode}
 use Rattle.resync_laws.proofs.RunTerms.{RunsRest}
 use Rattle.resync_laws.specs.Moved.{later_reading, later_event}
 use Rattle.resync_laws.specs.FromPoints.{items_among, from_points}
@@ -58,9 +52,3 @@ pub record FollowsAt {K V : Type 0} (reads : K → List Placed → List Placed �
 abbrev pub RestLaw : {K V : Type 0} → (K → List Placed → List Placed → Type 0) → List (Resumed K V) → Type 0
 RestLaw reads ps = (mode : FramesMode) (lost bytes : List ℕ) → stop_in (wholes ps) (port_of mode (lost ++ bytes)) ≡ None →
     FollowsAt reads ps mode lost bytes (report (rests ps) (rest_mode mode) (placed bytes))
-
--- Where no source has items before its point, the rest's items are the whole's from each source's point on, and no others.
-abbrev pub ExactLaw : {K V : Type 0} → List (Resumed K V) → Type 0
-ExactLaw ps = (mode : FramesMode) (lost bytes : List ℕ) → stop_in (wholes ps) (port_of mode (lost ++ bytes)) ≡ None →
-    items_among (map (λ e. later_event (length lost) e) (report (rests ps) (rest_mode mode) (placed bytes)))
-    ≡ from_points (points_in ps (runs_in (later_reading (length lost) (port_of (rest_mode mode) bytes)))) (items_among (report (wholes ps) mode (placed (lost ++ bytes))))

@@ -4,31 +4,20 @@ use Rattle.std.proofs.Common.{append-nil, Bool, true, false, cond, Option, None}
 use Rattle.std.specs.Prelude.{◌==◌}
 use Rattle.std.proofs.lemmas.List.{map-append}
 use Rattle.std.proofs.lemmas.List.Elements.{filter-append}
-use Rattle.trace_values.specs.declared.cell.Cell.{Cell}
-use Rattle.trace_values.specs.declared.fault.Reason.{Reason}
-use Rattle.trace_values.specs.Placed.{Place, Placed}
-use Rattle.trace_values.specs.declared.reading_modes.FramesMode.{FramesMode}
-use Rattle.trace_values.specs.declared.reading_modes.FramesMode.TheVariants.{Hunt, Aligned, Bare}
-use Rattle.frame_grammar.specs.Port.{PortItem, Full}
-use Rattle.frame_grammar.specs.Reading.{id_of_items}
+use Rattle.resync_laws.specs.Names.{Cell, Reason, Place, Placed, FramesMode, Hunt, Aligned, Bare, PortItem, Full}
+use Rattle.resync_laws.specs.Names.{id_of_items, frames_of_items, framed, bare_cell, bare, port_reading, BytesRise}
+use Rattle.resync_laws.specs.Names.{Event, id_of, all_runs, list_of, told, cut, Mapped, AreLawful, lifted, events}
+use Rattle.resync_laws.specs.Names.{lesser, of_source, least_fault, all_events, capture_events, port_events, lock_at}
+use Rattle.resync_laws.specs.Names.{is_item, runs_in, stop_in, report, IsPortRest, IsFramedRest, PortLocks, rest_mode}
 use Rattle.deformatter.specs.Reading.{PortStream, items_of, port_stream}
-use Rattle.deformatter.specs.PortReading.{frames_of_items, framed, bare_cell, bare, port_reading}
 use Rattle.deformatter.proofs.PortReadingLaws.{frames_of_items-append}
-use Rattle.deformatter.specs.Rising.{BytesRise}
 use Rattle.deformatter.proofs.RisingLaws.{reading_rises}
-use Rattle.source_events.specs.declared.event.Event.{Event}
-use Rattle.source_events.specs.Runs.{id_of, all_runs, list_of}
-use Rattle.source_events.specs.Merge.{told, cut}
-use Rattle.source_events.specs.Report.{Mapped, AreLawful, lifted, events, lesser, of_source, least_fault, all_events}
-use Rattle.source_events.specs.Report.{capture_events, port_events, lock_at, is_item}
 use Rattle.source_events.proofs.Placing.{RunsBetween}
 use Rattle.source_events.proofs.Least.{AreSound}
-use Rattle.source_events.specs.Report.{runs_in, stop_in, report}
 use Rattle.source_events.proofs.Least.{Full as Stop, least_none, list_append}
 use Rattle.source_events.proofs.Settling.{all_sound}
 use Rattle.source_events.proofs.Growth.{no_stop}
 use Rattle.source_events.proofs.Placing.{frames_between}
-use Rattle.resync_grammars.specs.Port.{IsPortRest, IsFramedRest, PortLocks, rest_mode}
 use Rattle.resync_laws.proofs.RunTerms.{unnamed_run, RunsRest}
 use Rattle.resync_laws.specs.FromPoints.{items_among, from_points}
 use Rattle.resync_laws.specs.Resumed.{Resumed, wholes, rests, CanAll, points_in}

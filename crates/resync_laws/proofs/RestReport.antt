@@ -1,34 +1,18 @@
 -- The report of what is left of a capture follows the whole's, with each offset taken greater by how many bytes were lost.
 use Rattle.std.proofs.Common.{◌≡◌, ℕ, ◌+◌, ◌≤◌, List, [], ◌∷◌, ◌++◌, length, map, refl, sym, ◌∙◌, ap, subst, arith}
 use Rattle.std.proofs.Common.{inl, inr, true, false, Option, None, Some}
-use Rattle.trace_values.specs.declared.cell.Cell.{Cell}
-use Rattle.trace_values.specs.declared.fault.Reason.{Reason}
-use Rattle.trace_values.specs.Placed.{Place, Placed, placed, placed_from}
-use Rattle.trace_values.specs.Stream.{Stream}
+use Rattle.resync_laws.specs.Names.{Cell, Reason, Place, Placed, placed, placed_from, Stream, PortItem, PortStream}
+use Rattle.resync_laws.specs.Names.{port_stream, FramesMode, Hunt, Aligned, Bare, PortReading, port_reading, BytesRise}
+use Rattle.resync_laws.specs.Names.{Event, list_of, What, told, lesser, of_source, least_fault, all_events, port_events}
+use Rattle.resync_laws.specs.Names.{lock_at, runs_in, stop_in, report, Hunting, IsRest, rest_mode, items_of, point_of}
+use Rattle.resync_laws.specs.Names.{from_point, Follows, FollowsFrom, later_place, later_fault, later}
 use Rattle.trace_values.proofs.Placing.{placed_append}
 use Rattle.std.proofs.lemmas.List.{map-append}
-use Rattle.frame_grammar.specs.Port.{PortItem}
-use Rattle.deformatter.specs.Reading.{PortStream, port_stream}
-use Rattle.trace_values.specs.declared.reading_modes.FramesMode.{FramesMode}
-use Rattle.trace_values.specs.declared.reading_modes.FramesMode.TheVariants.{Hunt, Aligned, Bare}
-use Rattle.deformatter.specs.PortReading.{PortReading, port_reading}
-use Rattle.deformatter.specs.Rising.{BytesRise}
 use Rattle.deformatter.proofs.RisingLaws.{placed_rise}
-use Rattle.source_events.specs.declared.event.Event.{Event}
-use Rattle.source_events.specs.Runs.{list_of}
-use Rattle.source_events.specs.declared.event.What.{What}
-use Rattle.source_events.specs.Merge.{told}
-use Rattle.source_events.specs.Report.{lesser, of_source, least_fault, all_events, port_events, lock_at}
-use Rattle.source_events.specs.Report.{runs_in, stop_in, report}
 use Rattle.source_events.proofs.Settling.{lesser_none, source_none}
 use Rattle.source_events.proofs.Growth.{no_stop}
-use Rattle.resync_rules.specs.Fronts.{Hunting, IsRest}
-use Rattle.resync_grammars.specs.Port.{rest_mode}
-use Rattle.resync_rules.specs.Points.{items_of, point_of, from_point, Follows, FollowsFrom}
 use Rattle.resync_laws.specs.FromPoints.{items_among, from_points}
-use Rattle.resync_rules.specs.Moved.{later_place, later_fault}
 use Rattle.resync_laws.specs.Moved.{later_run, later_reading, later_event}
-use Rattle.resync_rules.specs.Moved.{later}
 use Rattle.resync_laws.proofs.MovedTerms.{later_item}
 use Rattle.resync_laws.specs.Resumed.{Resumed, wholes, rests, CanAll, points_in, port_of}
 use Rattle.resync_laws.proofs.ReportTerms.{AllRead, RestLaw}

@@ -1,7 +1,6 @@
 -- The runs of frames, and what hides a front of them.
 use Rattle.std.specs.Prelude.{◌≡◌, List, ◌++◌, map}
-use Rattle.trace_values.specs.declared.cell.Cell.{Cell}
-use Rattle.resync_grammars.specs.Port.{unnamed}
+use Rattle.resync_laws.specs.Names.{Cell, unnamed}
 
 abbrev pub unnamed_run : List Cell → List Cell
 unnamed_run run = map unnamed run

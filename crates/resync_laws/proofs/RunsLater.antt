@@ -6,15 +6,9 @@ use Rattle.std.specs.List.{Contains}
 use Rattle.std.proofs.lemmas.List.{map-append}
 use Rattle.std.proofs.lemmas.List.Elements.{Contains-append_right}
 use Rattle.std.proofs.lemmas.Bool.{ne_eqb}
-use Rattle.trace_values.specs.declared.cell.Cell.{Cell}
-use Rattle.trace_values.specs.Placed.{units_of}
-use Rattle.frame_grammar.specs.Frame.{cells, id_after}
-use Rattle.frame_grammar.specs.Port.{PortItem, Full, Half, Frame}
-use Rattle.frame_grammar.specs.Reading.{offsets_of}
+use Rattle.resync_laws.specs.Names.{Cell, units_of, cells, id_after, PortItem, Full, Half, Frame, offsets_of}
+use Rattle.resync_laws.specs.Names.{frames_of_items, unnamed, BeginsNamed, AreNamedLater, joined, runs_of, all_runs}
 use Rattle.frame_grammar.proofs.CellLaws.{one_id}
-use Rattle.deformatter.specs.PortReading.{frames_of_items}
-use Rattle.resync_grammars.specs.Port.{unnamed, BeginsNamed, AreNamedLater}
-use Rattle.source_events.specs.Runs.{joined, runs_of, all_runs}
 use Rattle.resync_laws.proofs.RunTerms.{unnamed_run, RunsLater}
 use Rattle.resync_grammars.proofs.Naming.{frame_names, begin_named}
 

@@ -1,26 +1,10 @@
 -- How many units of a mapped source the rest of a capture skips.
 use Rattle.std.proofs.Common.{◌≡◌, ℕ, List, length, map, sym, ◌∙◌, ap, subst, inl, inr, Bool, true}
-use Rattle.trace_values.specs.Placed.{Placed, placed}
-use Rattle.trace_values.specs.Nibbles.{nibbles_of}
-use Rattle.trace_values.specs.Stream.{Stream}
-use Rattle.trace_values.specs.ReadingModes.{packets_hunt}
+use Rattle.resync_laws.specs.Names.{Placed, placed, nibbles_of, Stream, packets_hunt, StpItem, items_at, PortReading}
+use Rattle.resync_laws.specs.Names.{port_reading, Packet, Plan, SourceKind, Itm, Stp, stream_of, runs_in, list_of}
+use Rattle.resync_laws.specs.Names.{Hunting, IsRest, later, rest_mode, source_bytes, hunting, IsItemsRest}
 use Rattle.stp_grammar.specs.declared.packet.Order.{Order}
-use Rattle.stp_grammar.specs.declared.item.StpItem.{StpItem}
-use Rattle.stp_codec.specs.Reading.{items_at}
-use Rattle.deformatter.specs.PortReading.{PortReading, port_reading}
-use Rattle.source_events.specs.declared.packet.Packet.{Packet}
-use Rattle.source_events.specs.declared.plan.Plan.{Plan}
-use Rattle.source_events.specs.declared.plan.SourceKind.{SourceKind}
-use Rattle.source_events.specs.declared.plan.SourceKind.TheVariants.{Itm, Stp}
-use Rattle.source_events.specs.Plan.{stream_of}
-use Rattle.source_events.specs.Report.{runs_in}
-use Rattle.source_events.specs.Runs.{list_of}
 use Rattle.source_events.specs.Tails.{tail_of}
-use Rattle.resync_rules.specs.Fronts.{Hunting, IsRest}
-use Rattle.resync_rules.specs.Moved.{later}
-use Rattle.resync_grammars.specs.Port.{rest_mode}
-use Rattle.resync_grammars.specs.Capture.{source_bytes}
-use Rattle.resync_grammars.specs.Stp.{hunting, IsItemsRest}
 use Rattle.resync_laws.specs.Moved.{later_reading}
 use Rattle.resync_laws.proofs.MovedReport.{all_later, list_later}
 use Rattle.resync_laws.specs.Report.{rest_plan, left_bytes, left_reading, reads, Skips, skips}

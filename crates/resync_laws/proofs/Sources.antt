@@ -1,12 +1,8 @@
 -- From its point on a mapped source of the rest gives what it gives in the whole, run by run.
 use Rattle.std.proofs.Common.{◌≡◌, ℕ, List, [], ◌∷◌, ◌++◌, map, refl, sym, ◌∙◌, ap, subst, Option, None}
-use Rattle.trace_values.specs.declared.cell.Cell.{Cell}
-use Rattle.trace_values.specs.Placed.{Place, Placed}
-use Rattle.trace_values.specs.Stream.{Stream}
-use Rattle.source_events.specs.Runs.{list_of}
+use Rattle.resync_laws.specs.Names.{Cell, Place, Placed, Stream, list_of, IsRising, items_of, from_point, FollowsFrom}
 use Rattle.source_events.proofs.Least.{list_append}
 use Rattle.resync_laws.proofs.RunTerms.{unnamed_run}
-use Rattle.resync_rules.specs.Points.{IsRising, items_of, from_point, FollowsFrom}
 
 -- runs without an ID are of no source
 pub none_hidden : (x : ℕ) (runs : List (List Cell)) → list_of x (map unnamed_run runs) ≡ []

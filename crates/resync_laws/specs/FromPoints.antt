@@ -1,12 +1,7 @@
 -- The events of a report from each source's point on.
 use Rattle.std.specs.Prelude.{ℕ, List, [], ◌∷◌, if◌then◌else◌, Option, None, Some, is_none}
 use Rattle.std.specs.List.{filter}
-use Rattle.trace_values.specs.declared.cell.Cell.{Cell}
-use Rattle.trace_values.specs.Placed.{Place}
-use Rattle.source_events.specs.declared.event.Event.{Event}
-use Rattle.source_events.specs.Merge.{place_of}
-use Rattle.source_events.specs.Report.{is_item}
-use Rattle.resync_rules.specs.Points.{is_from}
+use Rattle.resync_laws.specs.Names.{Cell, Place, Event, place_of, is_item, is_from}
 
 -- the place of the first cell that has an ID
 abbrev pub first_in : List Cell → Option Place

@@ -1,3 +1,4 @@
+pub mod Names
 pub mod Points
 pub mod Report
 pub mod Rows

@@ -1,9 +1,6 @@
 -- What is read of the same bytes at offsets that are greater by one number.
 use Rattle.std.specs.Prelude.{ℕ, ◌+◌, List, map}
-use Rattle.resync_rules.specs.Moved.{later_fault}
-use Rattle.trace_values.specs.declared.cell.Cell.{Cell}
-use Rattle.deformatter.specs.PortReading.{PortReading}
-use Rattle.source_events.specs.declared.event.Event.{Event}
+use Rattle.resync_laws.specs.Names.{later_fault, Cell, PortReading, Event}
 
 -- the cells, the reading and the events there
 abbrev pub later_cell : ℕ → Cell → Cell

@@ -1,20 +1,8 @@
 -- From where on the rest of a capture tells what the whole tells: the point of each source.
 use Rattle.std.specs.Prelude.{ℕ, List, [], ◌∷◌, true}
 use Rattle.std.specs.Prelude.{Option, None, Some}
-use Rattle.trace_values.specs.declared.cell.Cell.{Cell}
-use Rattle.trace_values.specs.Placed.{Place}
-use Rattle.trace_values.specs.Stream.{Said, Notice, Kept}
-use Rattle.frame_grammar.specs.SourceBytes.{source_units}
-use Rattle.deformatter.specs.PortReading.{PortReading, cells_of}
-use Rattle.itm_codec.specs.Reading.{packets_in}
-use Rattle.stp_grammar.specs.declared.item.StpItem.{StpItem}
-use Rattle.stp_grammar.specs.declared.item.StpItem.TheVariants.{Version}
-use Rattle.stp_codec.specs.Reading.{items_in}
-use Rattle.source_events.specs.declared.plan.Plan.{Plan}
-use Rattle.source_events.specs.declared.plan.SourceKind.{SourceKind}
-use Rattle.source_events.specs.declared.plan.SourceKind.TheVariants.{Itm, Stp}
-use Rattle.source_events.specs.Plan.{kind_of}
-use Rattle.resync_rules.specs.Points.{point_in}
+use Rattle.resync_laws.specs.Names.{Cell, Place, Said, Notice, Kept, source_units, PortReading, cells_of, packets_in}
+use Rattle.resync_laws.specs.Names.{StpItem, Version, items_in, Plan, SourceKind, Itm, Stp, kind_of, point_in}
 use Rattle.resync_laws.specs.FromPoints.{first_in}
 
 -- the place of the first item of a VERSION

@@ -1,22 +1,11 @@
 -- The report of the rest of a capture, whose front is lost, against that of the whole.
 use Rattle.std.specs.Prelude.{◌≡◌, ◌⊎◌, ℕ, ◌-◌, List, ◌++◌, length, map, true, false, ◌==◌, Option, None, Some}
 use Rattle.std.specs.List.{list_any}
-use Rattle.trace_values.specs.Nibbles.{nibbles_of}
-use Rattle.trace_values.specs.Placed.{Place, Placed, placed, placed_from}
+use Rattle.resync_laws.specs.Names.{nibbles_of, Place, Placed, placed, placed_from, packets_hunt, PortReading}
+use Rattle.resync_laws.specs.Names.{port_reading, Event, Packet, Plan, SourceKind, Itm, Stp, part, kind_of, sources_by}
+use Rattle.resync_laws.specs.Names.{stop_in, report, Hunting, IsSync, IsFirstSync, IsRest, IsPortRest, rest_mode}
+use Rattle.resync_laws.specs.Names.{source_bytes}
 use Rattle.trace_values.specs.declared.reading_modes.PacketsMode.TheVariants.{Hunt}
-use Rattle.trace_values.specs.ReadingModes.{packets_hunt}
-use Rattle.deformatter.specs.PortReading.{PortReading, port_reading}
-use Rattle.source_events.specs.declared.event.Event.{Event}
-use Rattle.source_events.specs.declared.packet.Packet.{Packet}
-use Rattle.source_events.specs.declared.plan.Plan.{Plan}
-use Rattle.source_events.specs.declared.plan.SourceKind.{SourceKind}
-use Rattle.source_events.specs.declared.plan.SourceKind.TheVariants.{Itm, Stp}
-use Rattle.source_events.specs.Merge.{part}
-use Rattle.source_events.specs.Plan.{kind_of, sources_by}
-use Rattle.source_events.specs.Report.{stop_in, report}
-use Rattle.resync_rules.specs.Fronts.{Hunting, IsSync, IsFirstSync, IsRest}
-use Rattle.resync_grammars.specs.Port.{IsPortRest, rest_mode}
-use Rattle.resync_grammars.specs.Capture.{source_bytes}
 use Rattle.resync_grammars.specs.Itm as itm
 use Rattle.resync_grammars.specs.Stp as stp
 use Rattle.resync_laws.specs.Moved.{later_reading, later_event}

@@ -1,19 +1,11 @@
 -- Mapped sources whose fronts may be lost, and the reports of a whole and of its rest.
 use Rattle.std.specs.Prelude.{◌≡◌, ℕ, List, [], ◌∷◌, ◌++◌, length, map, true, ◌==◌, if◌then◌else◌}
 use Rattle.std.specs.Prelude.{Option, None, Some, is_none}
-use Rattle.trace_values.specs.declared.cell.Cell.{Cell}
-use Rattle.trace_values.specs.Placed.{Place, Placed, placed}
-use Rattle.trace_values.specs.Stream.{Stream}
-use Rattle.trace_values.specs.declared.reading_modes.FramesMode.{FramesMode}
-use Rattle.deformatter.specs.PortReading.{PortReading, port_reading, cells_of}
-use Rattle.source_events.specs.Merge.{part}
-use Rattle.source_events.specs.Runs.{list_of}
-use Rattle.source_events.specs.Report.{Mapped, IsLawful, runs_in, stop_in, report}
-use Rattle.resync_grammars.specs.Port.{rest_mode}
+use Rattle.resync_laws.specs.Names.{Cell, Place, Placed, placed, Stream, FramesMode, PortReading, port_reading}
+use Rattle.resync_laws.specs.Names.{cells_of, part, list_of, Mapped, IsLawful, runs_in, stop_in, report, rest_mode}
+use Rattle.resync_laws.specs.Names.{IsRising, FollowsFrom, AllFrom, items_of, later, later_stream}
 use Rattle.resync_laws.specs.FromPoints.{first_in}
-use Rattle.resync_rules.specs.Points.{IsRising, FollowsFrom, AllFrom, items_of}
 use Rattle.resync_laws.specs.Moved.{later_reading, later_event}
-use Rattle.resync_rules.specs.Moved.{later, later_stream}
 use Rattle.resync_laws.specs.FromPoints.{items_among, from_points}
 
 -- A mapped source whose front may be lost: which units its bytes are, how these read in the whole and in the rest,

@@ -1,18 +1,10 @@
 -- Worked rows of captures and their rests.
 use Rattle.std.specs.Prelude.{ℕ, List, [], ◌∷◌, take, drop, map, Option, option_map}
 use Rattle.trace_values.specs.Hex.{hex}
-use Rattle.trace_values.specs.Placed.{placed}
-use Rattle.trace_values.specs.declared.fault.Reason.{Reason}
-use Rattle.deformatter.specs.PortReading.{port_reading}
-use Rattle.trace_values.specs.declared.reading_modes.FramesMode.TheVariants.{Aligned as InFrames, Bare}
+use Rattle.resync_laws.specs.Names.{placed, Reason, port_reading, Aligned as InFrames, Bare, Event, What, Packet, Plan}
+use Rattle.resync_laws.specs.Names.{sources_by, stop_in}
 use Rattle.trace_values.specs.declared.reading_modes.PacketsMode.TheVariants.{Aligned}
 use Rattle.stp_grammar.specs.declared.packet.Order.TheVariants.{Msn}
-use Rattle.source_events.specs.declared.event.Event.{Event}
-use Rattle.source_events.specs.declared.event.What.{What}
-use Rattle.source_events.specs.declared.packet.Packet.{Packet}
-use Rattle.source_events.specs.declared.plan.Plan.{Plan}
-use Rattle.source_events.specs.Plan.{sources_by}
-use Rattle.source_events.specs.Report.{stop_in}
 use Rattle.resync_grammars.specs.SourceRows as rows
 use Rattle.resync_laws.specs.FromPoints.{items_among, from_points}
 use Rattle.resync_laws.specs.Report.{points, whole_report, left_report}

@@ -1,10 +1,7 @@
 //! Laws of captures whose front is lost, over the definitions alone: of a port, of sources, and of reports.
 
 ghost use Rattle.std.specs.Prelude.{◌≡◌, ℕ, List, ◌++◌, None};
-ghost use Rattle.trace_values.specs.Placed.{placed};
-ghost use Rattle.deformatter.specs.PortReading.{port_reading};
-ghost use Rattle.source_events.specs.Plan.{sources_by};
-ghost use Rattle.source_events.specs.Report.{stop_in};
+ghost use Rattle.resync_laws.specs.Names.{placed, port_reading, sources_by, stop_in};
 ghost use Rattle.resync_laws.specs.Report.{ReportFollows};
 
 pub use resync_grammars::port_laws::{port_pattern_law, port_rest_law};

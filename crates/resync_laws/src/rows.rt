@@ -2,11 +2,8 @@
 
 ghost use Rattle.std.specs.Prelude.{◌≡◌, [], ◌∷◌, None, Some, false};
 ghost use Rattle.itm_grammar.specs.declared.packet.Size.TheVariants.{One, Four};
-ghost use Rattle.itm_grammar.specs.declared.packet.ItmPacket.TheVariants.{Sync, Software};
+ghost use Rattle.resync_laws.specs.Names.{Sync, Software, None as NoStamp, Async, Version, Datum, BadSync};
 ghost use Rattle.stp_grammar.specs.declared.packet.Width.TheVariants.{Eight};
-ghost use Rattle.stp_grammar.specs.declared.item.Stamp.TheVariants.{None as NoStamp};
-ghost use Rattle.stp_grammar.specs.declared.item.StpItem.TheVariants.{Async, Version, Datum};
-ghost use Rattle.trace_values.specs.declared.fault.Reason.TheVariants.{BadSync};
 ghost use Rattle.source_events.specs.declared.event.What.TheVariants.{Locked, Packet};
 ghost use Rattle.source_events.specs.declared.packet.Packet.TheVariants.{Itm, Stp};
 ghost use Rattle.resync_grammars.specs.PortRows.{packets_in_frames};

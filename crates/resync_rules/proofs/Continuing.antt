@@ -1,10 +1,7 @@
 -- Readings with values before them, and what a rule says last.
 use Rattle.std.proofs.Common.{◌≡◌, List, [], ◌∷◌, ◌++◌, refl, sym, ◌∙◌, ap, subst, append_assoc, append-nil, Option, None, Some}
-use Rattle.trace_values.specs.declared.fault.Reason.{Reason}
-use Rattle.trace_values.specs.declared.next.Next.{Next}
-use Rattle.trace_values.specs.declared.next.Next.TheVariants.{Go, End, Fail}
-use Rattle.trace_values.specs.Placed.{Place, Placed}
-use Rattle.trace_values.specs.Reading.{Progress, with_unit, advance, progress_from}
+use Rattle.resync_rules.specs.Names.{Reason, Next, Go, End, Fail, Place, Placed, Progress, with_unit, advance}
+use Rattle.resync_rules.specs.Names.{progress_from}
 use Rattle.resync_rules.specs.Syncing.{said_last, EndsOrFails}
 
 module _ {S V : Type 0} (rule : S → Placed → Next S V) (start : S) where

@@ -4,16 +4,10 @@ use Rattle.std.specs.Prelude.{is_none}
 use Rattle.std.proofs.lemmas.List.{append_cancel_left, same_from_push, map-append}
 use Rattle.std.proofs.lemmas.List.Elements.{filter-append}
 use Rattle.std.proofs.lemmas.Bool.{le-leb, lt-leb}
-use Rattle.trace_values.specs.declared.fault.Reason.{Reason}
-use Rattle.trace_values.specs.declared.next.Next.{Next}
-use Rattle.trace_values.specs.declared.next.Next.TheVariants.{Go, End, Fail}
-use Rattle.trace_values.specs.Placed.{Place, Placed}
-use Rattle.trace_values.specs.Reading.{Progress, with_unit, advance, progress_from, progress}
-use Rattle.trace_values.specs.declared.pattern.Pattern.{Pattern}
-use Rattle.trace_values.specs.Hunted.{hunt}
+use Rattle.resync_rules.specs.Names.{Reason, Next, Go, End, Fail, Place, Placed, Progress, with_unit, advance}
+use Rattle.resync_rules.specs.Names.{progress_from, progress, Pattern, hunt, Stream, Said, Kept, kept}
 use Rattle.trace_values.proofs.Standings.{from_append as read_on}
 use Rattle.resync_rules.proofs.Continuing.{ended, items_from}
-use Rattle.trace_values.specs.Stream.{Stream, Said, Kept, kept}
 use Rattle.trace_values.proofs.Lists.{fronts_meet}
 use Rattle.trace_values.proofs.Modes as modes
 use Rattle.resync_rules.specs.Fronts.{Hunting, IsSync, Locks}

@@ -1,7 +1,6 @@
 -- A stream whose values are made into others in order, by a state that goes along; a value may give none.
 use Rattle.std.specs.Prelude.{◌≡◌, List, [], ◌∷◌, Bool, true, false, if◌then◌else◌, Option, None, Some}
-use Rattle.trace_values.specs.Placed.{Place}
-use Rattle.trace_values.specs.Stream.{Said, Notice, Kept}
+use Rattle.resync_rules.specs.Names.{Place, Said, Notice, Kept}
 
 -- the place of the first item of some kind
 abbrev pub first_item : {W : Type 0} → (W → Bool) → List (Said W × Place) → Option Place

@@ -2,13 +2,9 @@
 use Rattle.std.proofs.Common.{◌≡◌, ℕ, ◌+◌, ◌≤◌, List, [], ◌∷◌, ◌++◌, length, length-append, refl, sym, ◌∙◌, ap, subst, ◌⊎◌, inl, inr, arith, append_assoc, append-nil, Bool, true, false, Option, None, Some}
 use Rattle.std.proofs.lemmas.Bool.{true_from_ne_false}
 use Rattle.std.proofs.lemmas.List.{append_cancel_left}
-use Rattle.trace_values.specs.declared.fault.Reason.{Reason}
-use Rattle.trace_values.specs.declared.next.Next.{Next}
-use Rattle.trace_values.specs.Placed.{Place, Placed, units_of}
-use Rattle.trace_values.specs.Reading.{Progress, advance, progress_from, progress}
-use Rattle.trace_values.specs.Hunt.{IsAfter, IsNowhere, IsFirst}
-use Rattle.trace_values.specs.declared.pattern.Pattern.{Pattern}
-use Rattle.trace_values.specs.Hunted.{pattern_of, Found, Hunt, hunt_on, hunt_from, no_hunt, hunt}
+use Rattle.resync_rules.specs.Names.{Reason, Next, Place, Placed, units_of, Progress, advance, progress_from, progress}
+use Rattle.resync_rules.specs.Names.{IsAfter, IsNowhere, IsFirst, Pattern, pattern_of, Found, Hunt, hunt_on, hunt_from}
+use Rattle.resync_rules.specs.Names.{no_hunt, hunt}
 use Rattle.trace_values.proofs.Lists.{fronts_meet, same_fronts}
 use Rattle.trace_values.proofs.Standings.{from_append}
 use Rattle.trace_values.proofs.HuntSteps as hunt_steps

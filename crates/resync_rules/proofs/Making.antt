@@ -1,9 +1,7 @@
 -- Items that are made of packets at later offsets are at later offsets.
 use Rattle.std.proofs.Common.{◌≡◌, ℕ, List, [], ◌∷◌, map, refl, ◌∙◌, ap, Option, None, Some}
-use Rattle.trace_values.specs.Placed.{Place}
-use Rattle.trace_values.specs.Stream.{Said, Notice, Kept}
+use Rattle.resync_rules.specs.Names.{Place, Said, Notice, Kept, kept_if, decorate}
 use Rattle.resync_rules.specs.Moved.{later_place}
-use Rattle.trace_values.specs.Decorated.{kept_if, decorate}
 
 module _ {V W T : Type 0} (step : T → V → Option W × T) where
   kept_later : (c : ℕ) (o : Option W) (p : Place) (xs : List (Said W × Place)) → kept_if o (later_place c p) (map (λ x. (x.0, later_place c x.1)) xs) ≡ map (λ x. (x.0, later_place c x.1)) (kept_if o p xs)

@@ -2,16 +2,10 @@
 use Rattle.std.proofs.Common.{◌≡◌, ℕ, suc, ◌-◌, List, [], ◌∷◌, ◌++◌, length, map, refl, sym, ◌∙◌, ap, Bool, true, false, cond, Option, None, Some}
 use Rattle.std.specs.Prelude.{◌==◌, ◌&&◌}
 use Rattle.std.proofs.lemmas.List.{map-append, length-map}
-use Rattle.trace_values.specs.declared.fault.Reason.{Reason}
-use Rattle.trace_values.specs.declared.next.Next.{Next}
-use Rattle.trace_values.specs.declared.next.Next.TheVariants.{Go, End, Fail}
-use Rattle.trace_values.specs.Placed.{Place, Placed}
-use Rattle.trace_values.specs.Walk.{by_unit}
-use Rattle.trace_values.specs.Reading.{Progress, with_unit, advance, progress_from, progress}
-use Rattle.trace_values.specs.declared.pattern.Pattern.{Pattern}
-use Rattle.trace_values.specs.Hunted.{Found, Hunt, run_after, begun, hunt_on, hunt_from, no_hunt, hunt, hunted_by}
-use Rattle.trace_values.specs.Moded.{stream_in}
-use Rattle.trace_values.specs.Stream.{Stream, Said, Notice, Kept, kept, shown}
+use Rattle.resync_rules.specs.Names.{Reason, Next, Go, End, Fail, Place, Placed, by_unit, Progress, with_unit, advance}
+use Rattle.resync_rules.specs.Names.{progress_from, progress, Pattern, Found, Hunt, run_after, begun, hunt_on}
+use Rattle.resync_rules.specs.Names.{hunt_from, no_hunt, hunt, hunted_by, stream_in, Stream, Said, Notice, Kept, kept}
+use Rattle.resync_rules.specs.Names.{shown}
 use Rattle.resync_rules.specs.Moved.{later_place, later_fault}
 use Rattle.resync_rules.specs.Moved.{later, later_stream}
 

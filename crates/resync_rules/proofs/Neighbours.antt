@@ -1,11 +1,6 @@
 -- Patterns that tell no value.
 use Rattle.std.proofs.Common.{◌≡◌, ℕ, List, [], ◌∷◌, ◌++◌, sym, append-nil, None}
-use Rattle.trace_values.specs.declared.fault.Reason.{Reason}
-use Rattle.trace_values.specs.declared.next.Next.{Next}
-use Rattle.trace_values.specs.Placed.{Place, Placed, units_of}
-use Rattle.trace_values.specs.Walk.{Decides}
-use Rattle.trace_values.specs.Reading.{progress, reading}
-use Rattle.trace_values.specs.Hunt.{EndsWith}
+use Rattle.resync_rules.specs.Names.{Reason, Next, Place, Placed, units_of, Decides, progress, reading, EndsWith}
 use Rattle.trace_values.proofs.Readings as readings
 use Rattle.resync_rules.specs.Fronts.{EndsOnly}
 

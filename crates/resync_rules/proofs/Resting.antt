@@ -2,15 +2,9 @@
 use Rattle.std.proofs.Common.{◌≡◌, ℕ, ◌+◌, ◌-◌, List, [], ◌∷◌, ◌++◌, length, length-append, refl, sym, ◌∙◌, ap, subst, ◌⊎◌, inl, inr, arith, append_assoc, append-nil, Bool, true, false, Option, None, Some}
 use Rattle.std.specs.List.{AllByRecursion}
 use Rattle.std.proofs.lemmas.List.{map-append, nil_from_length, same_from_push}
-use Rattle.trace_values.specs.declared.fault.Reason.{Reason}
-use Rattle.trace_values.specs.declared.next.Next.{Next}
-use Rattle.trace_values.specs.Placed.{Place, Placed, units_of}
-use Rattle.trace_values.specs.Reading.{Progress, Splits, progress}
-use Rattle.trace_values.specs.Hunt.{IsAfter, EndsWith}
-use Rattle.trace_values.specs.declared.pattern.Pattern.{Pattern}
-use Rattle.trace_values.specs.Hunted.{pattern_of, Found, hunt, hunted_by}
-use Rattle.trace_values.specs.Moded.{stream_in}
-use Rattle.trace_values.specs.Stream.{Stream, Said, Notice, Kept, kept, shown}
+use Rattle.resync_rules.specs.Names.{Reason, Next, Place, Placed, units_of, Progress, Splits, progress, IsAfter}
+use Rattle.resync_rules.specs.Names.{EndsWith, Pattern, pattern_of, Found, hunt, hunted_by, stream_in, Stream, Said}
+use Rattle.resync_rules.specs.Names.{Notice, Kept, kept, shown}
 use Rattle.trace_values.proofs.Readings as readings
 use Rattle.trace_values.proofs.Standings.{from_append}
 use Rattle.resync_rules.specs.Fronts.{Hunting, HasEnded, IsSync, all_skipped, Locks, IsRest}

@@ -1,15 +1,9 @@
 -- A pattern that is a run of one unit and then another unit: what a rule that looks at the units alone owes so that the
 -- pattern is a synchronising word of its grammar.
 use Rattle.std.proofs.Common.{◌≡◌, ◌≢◌, ℕ, zero, suc, ◌+◌, ◌-◌, ◌≤◌, List, [], ◌∷◌, ◌++◌, replicate, refl, sym, ◌∙◌, ap, subst, ◌⊎◌, inl, inr, arith, append_assoc}
-use Rattle.trace_values.specs.declared.fault.Reason.{Reason}
-use Rattle.trace_values.specs.declared.next.Next.{Next}
-use Rattle.trace_values.specs.declared.next.Next.TheVariants.{Go, End, Fail}
-use Rattle.trace_values.specs.Placed.{Placed, units_of}
+use Rattle.resync_rules.specs.Names.{Reason, Next, Go, End, Fail, Placed, units_of, Within, walk, Decides, by_unit}
+use Rattle.resync_rules.specs.Names.{EndsWith, Pattern, pattern_of}
 use Rattle.trace_values.specs.Grammar.{InUnits}
-use Rattle.trace_values.specs.Walk.{Within, walk, Decides, by_unit}
-use Rattle.trace_values.specs.Hunt.{EndsWith}
-use Rattle.trace_values.specs.declared.pattern.Pattern.{Pattern}
-use Rattle.trace_values.specs.Hunted.{pattern_of}
 use Rattle.trace_values.proofs.Placing.{on_units, walk_units}
 use Rattle.resync_rules.specs.Syncing.{said_last, EndsOrFails, Syncs}
 

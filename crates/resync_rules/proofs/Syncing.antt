@@ -1,14 +1,8 @@
 -- Where a pattern ends a value, in a reading and in a hunt.
 use Rattle.std.proofs.Common.{◌≡◌, ℕ, ◌+◌, ◌≤◌, List, [], ◌∷◌, ◌++◌, length, length-append, replicate, refl, sym, ◌∙◌, ap, subst, inl, inr, arith, append_assoc, None}
 use Rattle.std.proofs.lemmas.List.{map-append, length-map, append_cancel_left}
-use Rattle.trace_values.specs.declared.fault.Reason.{Reason}
-use Rattle.trace_values.specs.declared.next.Next.{Next}
-use Rattle.trace_values.specs.declared.next.Next.TheVariants.{Go}
-use Rattle.trace_values.specs.Placed.{Place, Placed, units_of}
-use Rattle.trace_values.specs.Reading.{Reading, Splits, Progress, advance, progress_from, progress, reading}
-use Rattle.trace_values.specs.Hunt.{EndsWith}
-use Rattle.trace_values.specs.declared.pattern.Pattern.{Pattern}
-use Rattle.trace_values.specs.Hunted.{pattern_of}
+use Rattle.resync_rules.specs.Names.{Reason, Next, Go, Place, Placed, units_of, Reading, Splits, Progress, advance}
+use Rattle.resync_rules.specs.Names.{progress_from, progress, reading, EndsWith, Pattern, pattern_of}
 use Rattle.trace_values.proofs.Lists.{fronts_meet}
 use Rattle.trace_values.proofs.Standings.{from_append}
 use Rattle.trace_values.proofs.Readings as readings

@@ -1,12 +1,7 @@
 -- What the rest of a list reads, in the words of the grammar.
 use Rattle.std.proofs.Common.{◌≡◌, ℕ, ◌≤◌, List, [], ◌∷◌, ◌++◌, length, sym, ◌∙◌, ap, subst, inl, inr, arith, append_assoc, append-nil, false, Option, None}
-use Rattle.trace_values.specs.declared.fault.Reason.{Reason}
-use Rattle.trace_values.specs.declared.next.Next.{Next}
-use Rattle.trace_values.specs.declared.pattern.Pattern.{Pattern}
-use Rattle.trace_values.specs.Placed.{Place, Placed, units_of}
-use Rattle.trace_values.specs.Reading.{Reading, Splits, IsReading, Progress, progress, reading}
-use Rattle.trace_values.specs.Hunt.{IsNowhere}
-use Rattle.trace_values.specs.Hunted.{pattern_of, Found}
+use Rattle.resync_rules.specs.Names.{Reason, Next, Pattern, Place, Placed, units_of, Reading, Splits, IsReading}
+use Rattle.resync_rules.specs.Names.{Progress, progress, reading, IsNowhere, pattern_of, Found}
 use Rattle.trace_values.proofs.Readings as readings
 use Rattle.trace_values.proofs.Standings.{from_append}
 use Rattle.resync_rules.specs.Fronts.{EndsAt, ReadsOn, IsRestInWords}

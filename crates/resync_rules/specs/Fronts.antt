@@ -1,10 +1,7 @@
 -- Lost fronts: where a pattern tells a value, and what a hunt in the rest of a list of units reads, against the whole.
 use Rattle.std.specs.Prelude.{◌≡◌, ◌↔◌, ◌⊎◌, ℕ, ◌-◌, ◌≤◌, List, [], ◌∷◌, ◌++◌, length, true, false, None}
-use Rattle.trace_values.specs.declared.fault.Reason.{Reason}
-use Rattle.trace_values.specs.Placed.{Place, Placed, units_of}
-use Rattle.trace_values.specs.Hunt.{EndsWith, IsNowhere, IsFirst}
-use Rattle.trace_values.specs.Reading.{Reading, Splits, IsReading}
-use Rattle.trace_values.specs.Stream.{Stream, Said, Notice, Kept, kept}
+use Rattle.resync_rules.specs.Names.{Reason, Place, Placed, units_of, EndsWith, IsNowhere, IsFirst, Reading, Splits}
+use Rattle.resync_rules.specs.Names.{IsReading, Stream, Said, Notice, Kept, kept}
 
 -- it is at the beginning of u
 abbrev pub BeginsWith : List ℕ → List ℕ → Type 0

@@ -1,3 +1,4 @@
+pub mod Names
 pub mod Fronts
 pub mod Syncing
 pub mod Points

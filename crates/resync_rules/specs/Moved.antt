@@ -1,8 +1,6 @@
 -- What is read of the same units at offsets that are greater by one number.
 use Rattle.std.specs.Prelude.{ℕ, ◌+◌, map, Option, None, Some}
-use Rattle.trace_values.specs.declared.fault.Reason.{Reason}
-use Rattle.trace_values.specs.Placed.{Place, Placed}
-use Rattle.trace_values.specs.Stream.{Stream}
+use Rattle.resync_rules.specs.Names.{Reason, Place, Placed, Stream}
 
 -- a place and a fault there
 abbrev pub later_place : ℕ → Place → Place

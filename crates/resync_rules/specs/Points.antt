@@ -2,8 +2,7 @@
 use Rattle.std.specs.Prelude.{◌≡◌, ℕ, suc, ◌+◌, ◌*◌, ◌≤◌, List, [], ◌∷◌, ◌++◌, Bool, true, false, nat_le}
 use Rattle.std.specs.Prelude.{Option, None, Some}
 use Rattle.std.specs.List.{filter}
-use Rattle.trace_values.specs.Placed.{Place, Placed}
-use Rattle.trace_values.specs.Stream.{Stream, Said, Notice, Kept}
+use Rattle.resync_rules.specs.Names.{Place, Placed, Stream, Said, Notice, Kept}
 
 -- where a source locks: the place of the first notice
 abbrev pub point_in : {V : Type 0} → List (Said V × Place) → Option Place

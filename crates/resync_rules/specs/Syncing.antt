@@ -1,14 +1,7 @@
 -- What a grammar owes so that a reading can begin at a pattern.
 use Rattle.std.specs.Prelude.{◌≡◌, ◌≢◌, List, [], ◌∷◌, length, Bool, true}
-use Rattle.trace_values.specs.declared.fault.Reason.{Reason}
-use Rattle.trace_values.specs.declared.next.Next.{Next}
-use Rattle.trace_values.specs.declared.next.Next.TheVariants.{Go, End, Fail}
-use Rattle.trace_values.specs.Placed.{Placed, units_of}
-use Rattle.trace_values.specs.Walk.{Within, Whole, walk, Decides}
-use Rattle.trace_values.specs.Hunt.{EndsWith}
-use Rattle.trace_values.specs.declared.pattern.Pattern.{Pattern}
-use Rattle.trace_values.specs.Hunted.{pattern_of}
-use Rattle.trace_values.specs.Moded.{stream_in}
+use Rattle.resync_rules.specs.Names.{Reason, Next, Go, End, Fail, Placed, units_of, Within, Whole, walk, Decides}
+use Rattle.resync_rules.specs.Names.{EndsWith, Pattern, pattern_of, stream_in}
 use Rattle.resync_rules.specs.Fronts.{Hunting}
 
 -- What a rule says of the last of some units, where it goes on after each value, and no further than a fault.

@@ -1,12 +1,7 @@
 //! The laws of points, for every rule whose readings can begin at a pattern.
 
 ghost use Rattle.std.specs.Prelude.{◌≡◌, ℕ, List, Bool, map, true};
-ghost use Rattle.trace_values.specs.declared.fault.Reason.{Reason};
-ghost use Rattle.trace_values.specs.declared.next.Next.{Next};
-ghost use Rattle.trace_values.specs.declared.pattern.Pattern.{Pattern};
-ghost use Rattle.trace_values.specs.Placed.{Placed};
-ghost use Rattle.trace_values.specs.Moded.{stream_in};
-ghost use Rattle.trace_values.specs.Walk.{by_unit};
+ghost use Rattle.resync_rules.specs.Names.{Reason, Next, Pattern, Placed, stream_in, by_unit};
 ghost use Rattle.resync_rules.specs.Syncing.{SpelledBy, Syncs};
 ghost use Rattle.resync_rules.specs.Points.{Follows};
 ghost use Rattle.resync_rules.specs.Moved.{later, later_stream};

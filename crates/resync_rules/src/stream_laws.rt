@@ -1,12 +1,7 @@
 //! The laws of a rule whose readings can begin at a pattern.
 
 ghost use Rattle.std.specs.Prelude.{◌≡◌, List, ◌++◌, Bool, None};
-ghost use Rattle.trace_values.specs.declared.fault.Reason.{Reason};
-ghost use Rattle.trace_values.specs.declared.next.Next.{Next};
-ghost use Rattle.trace_values.specs.declared.pattern.Pattern.{Pattern};
-ghost use Rattle.trace_values.specs.Placed.{Placed};
-ghost use Rattle.trace_values.specs.Hunted.{pattern_of};
-ghost use Rattle.trace_values.specs.Moded.{stream_in};
+ghost use Rattle.resync_rules.specs.Names.{Reason, Next, Pattern, Placed, pattern_of, stream_in};
 ghost use Rattle.resync_rules.specs.Fronts.{EndsOnly, IsRest, IsRestInWords};
 ghost use Rattle.resync_rules.specs.Syncing.{SpelledBy, Syncs, hunting_for};
 

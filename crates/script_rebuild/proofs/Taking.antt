@@ -2,8 +2,8 @@
 use Rattle.std.proofs.Common.{◌≡◌, ℕ, ◌+◌, ◌≤◌, List, [], ◌∷◌, ◌++◌, refl, sym, ◌∙◌, ap, subst, Bool, true, false, Option, Some, None, Result, Ok, Err, append-nil, append_assoc, length, length-append, arith, All, drop}
 use Rattle.std.specs.Prelude.{◌==◌, is_some, option_map}
 use Rattle.std.proofs.Common.{◌⊎◌, inl, inr, ◌-◌}
-use Rattle.port_formatter.proofs.Owing.{with_last}
-use Rattle.port_formatter.specs.Owed.{last_of}
+use Rattle.trace_stream.proofs.Owing.{with_last}
+use Rattle.trace_stream.specs.Owed.{last_of}
 use Rattle.stp_grammar.specs.declared.packet.Order.{Order}
 use Rattle.source_events.specs.declared.plan.Plan.{Plan}
 use Rattle.trace_funnel.specs.declared.turns.Turns.{Turns}

@@ -1,7 +1,7 @@
 -- What the action stands for.
 use Rattle.std.specs.Prelude.{◌≡◌, ℕ, List, [], ◌∷◌, ◌++◌, length, Option, None, Some, is_some, option_map, Bool, true, false}
 use Rattle.frame_writer.specs.Fronts.{all_but_last}
-use Rattle.port_formatter.specs.Owed.{last_of}
+use Rattle.trace_stream.specs.Owed.{last_of}
 use Rattle.script_rebuild.specs.Writer as writers
 use Rattle.script_text.specs.declared.line_fault.LineFault.{LineFault}
 use Rattle.script_rebuild.specs.declared.plan.RebuildPlan.{RebuildPlan}

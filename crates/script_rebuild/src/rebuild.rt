@@ -25,13 +25,13 @@ use crate::plan::{RebuildPlan, ScriptFault};
 use crate::version::{Version, is_header};
 use arrayvec::ArrayVec;
 use memchr::memchr;
-use port_formatter::{Formatter, put_owed};
+use port_formatter::Formatter;
 use script_text::{
     Item, LINE_BYTES, Line, Line2, LineFault, PacketLine, packet_line, read_into, read_new,
 };
 use source_events::{Plan, SourceKind};
 use std::alloc::{AllocError, Global};
-use trace_stream::{Action, Outlet, Progress};
+use trace_stream::{Action, Outlet, Progress, put_owed};
 
 /// A script as it is read: its open line, and the writer of what the lines before it put. After its making it allocates
 /// nothing.
@@ -467,7 +467,7 @@ impl Action for Rebuild {
     }
 
     /// Takes the bytes up to a line feed, and that.
-    fn feed(&mut self, piece: &[u8], outlet: &mut Outlet) -> Progress {
+    fn feed(&mut self, piece: &[u8], outlet: &mut Outlet, _notes: &mut Outlet) -> Progress {
         if self.line.is_empty() {
             let found = packet_line(piece);
             if let Some(line) = &found {

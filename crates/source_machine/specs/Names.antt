@@ -12,7 +12,7 @@ pub use Rattle.source_events.specs.declared.packet.Packet.{Packet}
 pub use Rattle.source_events.specs.declared.packet.Packet.TheVariants.{Itm, Stp}
 pub use Rattle.source_events.specs.declared.plan.SourceKind.{SourceKind}
 pub use Rattle.stp_codec.specs.Decoder.{FinishesParts, order_of}
-pub use Rattle.stp_codec.specs.Nibbles.{TakesNibbles, before_by, nibbles_from, taken_by}
+pub use Rattle.stp_codec.specs.Nibbles.{TakesNibbles, before_by, nibbles_after, nibbles_from, taken_by}
 pub use Rattle.stp_codec.specs.Reading.{items_at, items_in}
 pub use Rattle.stp_codec.specs.declared.decoder.StpDecoder.{StpDecoder}
 pub use Rattle.stp_grammar.specs.Attribution.{attribute}

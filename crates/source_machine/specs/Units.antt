@@ -1,8 +1,8 @@
 -- The machine of a source over its units, of which the first may be in the middle of a byte.
 use Rattle.std.specs.Prelude.{◌≡◌, ℕ, ◌+◌, List, [], ◌∷◌, ◌++◌, Bool, false, None, is_none}
 use Rattle.source_machine.specs.Names.{Placed, byte_at, low_of, high_of, Stream, Grows, Step, packets_in, Order}
-use Rattle.source_machine.specs.Names.{items_at, nibbles_from, taken_by, before_by, Packet, Itm as ItmPacket}
-use Rattle.source_machine.specs.Names.{Stp as StpPacket, SourceKind, stream_as}
+use Rattle.source_machine.specs.Names.{items_at, nibbles_after, nibbles_from, taken_by, before_by, Packet}
+use Rattle.source_machine.specs.Names.{Itm as ItmPacket, Stp as StpPacket, SourceKind, stream_as}
 use Rattle.itm_codec.specs.Decoder as itm
 use Rattle.stp_codec.specs.Decoder as stp
 use Rattle.source_events.specs.declared.plan.SourceKind.TheVariants.{Itm as ItmKind, Stp as StpKind}
@@ -30,6 +30,12 @@ reading_on (Itm decoder) n = stream_as ItmPacket (packets_in (itm.is_hunter deco
 reading_on (Stp decoder) n =
     stream_as StpPacket (items_at (stp.order_of decoder) (stp.is_hunter decoder) n)
 
+-- A machine of the same kind reads units as this one does, in its mode and in any.
+pub record ReadsAlike (old new : SourceMachine) : Type 0 where
+  pub kind : kind_of new ≡ kind_of old
+  pub any : reads_on new ≡ reads_on old
+  pub own : reading_on new ≡ reading_on old
+
 -- its decoder stands for these units
 abbrev pub StandsOn : SourceMachine → List Placed → Type 0
 StandsOn (Itm decoder) n = itm.Stands decoder n
@@ -43,6 +49,11 @@ units_at StpKind at byte = low_of at byte ∷ (high_of at byte ∷ [])
 abbrev pub units_from : SourceKind → ℕ → ℕ → ℕ → List Placed
 units_from ItmKind half at byte = byte_at at byte ∷ []
 units_from StpKind half at byte = nibbles_from half at byte
+
+-- and those after it
+abbrev pub units_after : SourceKind → ℕ → ℕ → ℕ → List Placed
+units_after ItmKind half at byte = []
+units_after StpKind half at byte = nibbles_after half at byte
 
 -- those that an answer takes, the last of them being the fault's, if it is one; and those before the last
 abbrev pub taken_on : SourceKind → ℕ → ℕ → Step Packet → List Placed

@@ -5,6 +5,8 @@ ghost use Rattle.std.specs.Prelude.{None, is_none};
 ghost use Rattle.source_machine.specs.Names.{PacketFits, Packet, SourceKind, Placed, byte_at, Stream, Grows, HasRoom};
 ghost use Rattle.source_machine.specs.Names.{Rises, Settled, Shows, TakesNone, Tells, item_at, COUNT_ROOM};
 ghost use Rattle.source_machine.specs.Finding.{PassesOver, ToldFits, told_by, told_in};
+ghost use Rattle.source_machine.specs.Units.{ReadsAlike};
+ghost use Rattle.source_machine.specs.declared.machine.SourceMachine.{SourceMachine};
 ghost use Rattle.source_machine.specs.declared.machine.TheConstants.{AHEAD};
 ghost use Rattle.trace_values.specs.declared.taking.Found.TheVariants.{Ends, Waits, Unknown};
 
@@ -39,6 +41,9 @@ pub trait Finds: Machine {
     /// The kind of source that it reads.
     ghost kind: { SourceKind };
 
+    /// The machine of a source that it is.
+    ghost source: { Self → SourceMachine };
+
     /// These bytes end the unfinished packet, as these parts say.
     ghost ends: { Self → List ℕ → Self.Parts → Type 0 };
 
@@ -58,6 +63,7 @@ pub trait Finds: Machine {
         requires live { Self.live self.old ≡ true }
         requires ahead { count + AHEAD ≤ length ahead.now }
         ensures same { reads self.new ≡ reads self.old }
+        ensures alike { ReadsAlike (source self.old) (source self.new) }
         ensures live { Self.live self.new ≡ true }
         ensures ends { (parts : Self.Parts) → result ≡ Ends parts →
             ends self.new ahead.now parts × (0 < bytes_in parts) × (bytes_in parts ≤ count) }
@@ -73,6 +79,7 @@ pub trait Finds: Machine {
         requires live { Self.live self.old ≡ true }
         requires ends { ends self.old ahead.now parts }
         ensures same { reads self.new ≡ reads self.old }
+        ensures alike { ReadsAlike (source self.old) (source self.new) }
         ensures live { Self.live self.new ≡ true }
         ensures bytes { (0 < result.bytes) × (result.bytes ≤ bytes_in parts) }
         ensures passes { PassesOver (reads self.old) (Self.stands self.old) (Self.stands self.new)
@@ -89,6 +96,7 @@ pub trait Finds: Machine {
         requires live { Self.live self.old ≡ true }
         requires room { Self.held_units self.old + Self.skipped_units self.old + 2 * length bytes.now ≤ COUNT_ROOM }
         ensures same { reads self.new ≡ reads self.old }
+        ensures alike { ReadsAlike (source self.old) (source self.new) }
         ensures live { Self.live self.new ≡ true }
         ensures bytes { IfSome result (λ taken. (0 < taken.bytes) × (taken.bytes ≤ length bytes.now)) }
         ensures passes { IfSome result (λ taken. PassesOver (reads self.old) (Self.stands self.old)
@@ -137,6 +145,8 @@ impl Finds for ItmDecoder {
     ghost reads = { λ m. reading_of (ItmSource m) };
 
     ghost kind = { ItmKind };
+
+    ghost source = { λ m. ItmSource m };
 
     ghost ends = { EndsPart };
 
@@ -200,6 +210,8 @@ impl Finds for StpDecoder {
     ghost reads = { λ m. reading_of (StpSource m) };
 
     ghost kind = { StpKind };
+
+    ghost source = { λ m. StpSource m };
 
     ghost ends = { FinishesParts };
 

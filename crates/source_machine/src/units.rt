@@ -1,10 +1,11 @@
 //! The machine of a source over its units: the bytes of an ITM source, the nibbles of an STP source. A list of them may
 //! begin in the middle of a byte.
 
-ghost use Rattle.std.specs.Prelude.{◌≡◌, ◌+◌, ◌≤◌, List, [], true};
+ghost use Rattle.std.specs.Prelude.{◌≡◌, ◌+◌, ◌≤◌, List, None, [], false, true};
 ghost use Rattle.source_machine.specs.Names.{PacketFits, Placed, HasRoom, Tells};
 ghost use Rattle.source_machine.specs.Machine.{held_of, is_live, skipped_by};
-ghost use Rattle.source_machine.specs.Units.{StandsOn, TakesUnits, kind_of, reading_on, reads_on, units_from};
+ghost use Rattle.source_machine.specs.Units.{StandsOn, TakesUnits, kind_of, reading_on, reads_on};
+ghost use Rattle.source_machine.specs.Units.{units_after, units_from};
 
 use crate::machine::{SourceMachine, itm_step, stp_step};
 use itm_codec::ItmDecoder;
@@ -68,6 +69,27 @@ impl SourceMachine {
                 half,
                 byte,
             )),
+        }
+    }
+
+    /// One of the same source whose units begin with a packet, and which has taken those of the byte at this offset
+    /// after this half: of an STP source the high nibble at 0, else none. They give nothing and are no fault.
+    pub fn aligned_after(&self, at: u64, half: u8, byte: u8) -> SourceMachine
+        ensures kind { kind_of result ≡ kind_of self.now }
+        ensures reads { reads_on result ≡ reads_on self.now }
+        ensures mode { reading_on result ≡ reads_on result false }
+        ensures list { StandsOn result (units_after (kind_of self.now) half at byte) }
+        ensures given { (reads_on self.now false (units_after (kind_of self.now) half at byte)).given ≡ [] }
+        ensures sound { (reads_on self.now false (units_after (kind_of self.now) half at byte)).fault ≡ None }
+        ensures live { is_live result ≡ true }
+        ensures few { held_of result + skipped_by result ≤ 2 }
+    {
+        match self {
+            SourceMachine::Itm(_) => SourceMachine::Itm(ItmDecoder::aligned()),
+            SourceMachine::Stp(decoder) => {
+                let order = decoder.order();
+                SourceMachine::Stp(StpDecoder::aligned_after(order, at, half, byte))
+            }
         }
     }
 }

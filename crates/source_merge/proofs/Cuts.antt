@@ -3,19 +3,15 @@ use Rattle.std.proofs.Common.{◌≡◌, ℕ, ◌+◌, ◌-◌, ◌*◌, ◌/◌
 use Rattle.std.specs.Prelude.{slice_index, nat_lt, if◌then◌else◌, ◌==◌}
 use Rattle.std.proofs.lemmas.Bool.Decides.{nat_tests}
 use Rattle.std.proofs.lemmas.Bool.{cases_lt, true≢false}
-use Rattle.source_merge.specs.Names.{Cell, source_id, aux_bit, cells, names, frame_places, ends_from, ends_left}
+use Rattle.source_merge.specs.Names.{Cell, source_id, aux_bit, cells, names, frame_places, ends_from, ends_left, run_length}
 use Rattle.frame_runs.specs.Pairs.{end_at, is_end}
-use Rattle.source_merge.specs.Split.{AreInPlace, IsSplit, split_places}
+use Rattle.source_merge.specs.Split.{AreInPlace, IsFirstRun, IsLeft, IsSplit, begun_after, begun_cells, cells_to, left_cells, split_cells, split_places}
 use Rattle.source_merge.specs.declared.split.Begun.{Begun}
+use Rattle.source_merge.specs.declared.split.RunsLeft.{RunsLeft}
 use Rattle.source_merge.specs.declared.split.SplitFrame.{SplitFrame}
-use Rattle.source_merge.proofs.Parts.{Next, next as next_part}
+use Rattle.source_merge.proofs.Parts.{part_run}
 use Rattle.frame_runs.proofs.Ends.{next_end, no_end}
-use Rattle.source_merge.proofs.Splitting.{Part, AreParts, IsCut, all_cells, all_parts, cells_of_parts, divided, ended, part_to, passed_to, places_long, starts_cut}
-
--- what begins at the end of a run
-abbrev pub begun_after : List ℕ → Begun → ℕ → Begun
-begun_after frame begun k =
-    record { source = source_id (slice_index frame (2 * k) / 2); run = begun.run + 1; from = end_at frame k + 1 }
+use Rattle.source_merge.proofs.Splitting.{Part, AreParts, IsCut, all_cells, all_parts, cells_of_parts, divided, ended, none_yet, part_to, passed_to, places_long, starts_cut}
 
 -- the part that has begun, if it has a byte before an index, and others
 abbrev pub ended_before : Begun → ℕ → List Part → List Part
@@ -134,99 +130,119 @@ module _ (split : SplitFrame) where
   abbrev named : List ℕ
   named = split.frame.now.bytes
 
-  -- the cells that are still to come, where a run has begun and these ends are left
-  abbrev pub rest_of : Begun → List ℕ → List Cell
-  rest_of begun ends = cells_of_parts (split_places split) split.bytes (parts_from named begun ends)
+  abbrev places : List ℕ
+  places = split_places split
 
-  -- they are those from a pair on
-  pub record IsAt (begun : Begun) (left : List ℕ) : Type 0 where
-    pub pair : ℕ
-    pub last : pair ≤ 8
-    pub ends : left ≡ ends_from named pair
-    pub run : begun.run ≤ pair
-    pub from : begun.from ≤ 2 * pair
-    pub low : ℕ
-    pub are : AreParts low 8 15 (parts_from named begun left)
+  -- what is left is parts of the frame, one after the other
+  pub record AreLeft (begun : Begun) (ends : List ℕ) : Type 0 where
+    pub cells : cells_to split begun ends ≡ cells_of_parts places split.bytes (parts_from named begun ends)
+    pub are : AreParts begun.run 8 15 (parts_from named begun ends)
+
+  -- the runs of parts rise from a lower number, too
+  from_lower : (run more : ℕ) (parts : List Part) → run ≤ more → AreParts more 8 15 parts → AreParts run 8 15 parts
+  from_lower run more [] h a = (let e = a in omega arith)
+  from_lower run more (p ∷ parts) h a = ((let e = a.0 in omega arith), a.1, a.2, a.3)
+
+  one_left : (k : ℕ) (begun : Begun) (ends : List ℕ) → k < 8 → AreLeft (begun_after named begun k) ends → AreLeft begun (k ∷ ends)
+  one_left k begun ends below more =
+      let end = end_at named k in
+      let next = begun_after named begun k in
+      let rest = parts_from named next ends in
+      let near = end_near named k below in
+      let most = near.1 in
+      let long = places_long split in
+      ⊎_elim
+      (λ less. record {
+        cells = ap (λ (l : List Cell). begun_cells places split.bytes begun end ++ l) more.cells
+            ∙ ap (cells_of_parts places split.bytes) (sym (some_before begun end rest less));
+        are = subst (λ (l : List Part). AreParts begun.run 8 15 l) (sym (some_before begun end rest less))
+            ((let e : begun.run ≤ begun.run = omega arith in e), less, most, more.are);
+      })
+      (λ none. record {
+        cells = ap (λ (l : List Cell). l ++ cells_to split next ends)
+            (none_yet places split.bytes begun end none (omega (arith, most, long)))
+            ∙ more.cells ∙ ap (cells_of_parts places split.bytes) (sym (none_before begun end rest none));
+        are = subst (λ (l : List Part). AreParts begun.run 8 15 l) (sym (none_before begun end rest none))
+            (from_lower begun.run (begun.run + 1) rest (omega arith) more.are);
+      })
+      (cases_lt begun.from end)
+
+  pub left_are : (ends : List ℕ) (p : ℕ) (begun : Begun) → p ≤ 8 → ends ≡ ends_from named p → begun.run ≤ p → AreLeft begun ends
+  left_are [] p begun low e run = record { cells = refl; are = (let h : begun.run ≤ 8 = omega (arith, low, run) in h) }
+  left_are (k ∷ ends) p begun low e run =
+      let n = next_end named p k ends low (sym e) in
+      let first = n.0 in
+      let below = n.1 in
+      one_left k begun ends below
+      (left_are ends (k + 1) (begun_after named begun k) (omega (arith, below)) n.4 (omega (arith, first, run)))
+
+  -- from the first of them on it is all of the frame
+  pub all_left : (s : IsSplit split) (begun : Begun) → begun.source ≡ split.id → begun.run ≡ 0 → begun.from ≡ 0 →
+      cells_to split begun (ends_left split.ends) ≡ split_cells split
+  all_left s begun source run from =
+      (left_are (ends_left split.ends) 0 begun (omega arith) s.ends (omega (arith, run))).cells
+      ∙ (all_of named (frame_places split.frame.now) split.id places split.bytes (places_long split) split.sized s.placed
+      begun (ends_left split.ends) source run from s.ends).cells
 
   -- the next end of a run
-  pub record IsEnd (pair k end : ℕ) : Type 0 where
-    pub first : pair ≤ k
-    pub below : k < 8
-    pub is : end ≡ end_at named k
-    pub near : end ≤ 2 * k + 1
-    pub within : end ≤ 15
-
-  module _ (s : IsSplit split) (begun : Begun) (k bit : ℕ) (left ends : List ℕ) (i : IsAt begun left) (some : left ≡ k ∷ ends) where
+  module _ (left : RunsLeft) (k : ℕ) (ends : List ℕ) (i : IsLeft split left) (some : ends_left left.ends ≡ k ∷ ends) where
     pub pair_below : k < 8
     pair_below = (next_end named i.pair k ends i.last (sym i.ends ∙ some)).1
 
-    module _ (b : bit ≡ split.late / 2 ^ k % 2) where
-      pub end_is : IsEnd i.pair k (2 * k + bit)
-      end_is =
-          let n = next_end named i.pair k ends i.last (sym i.ends ∙ some) in
-          let is : 2 * k + bit ≡ end_at named k = ap (λ (x : ℕ). 2 * k + x) b ∙ s.late k n.1 in
-          let near = end_near named k n.1 in
-          record {
-            first = n.0;
-            below = n.1;
-            is = is;
-            near = (let h = near.0 in omega (arith, is, h));
-            within = (let h = near.1 in omega (arith, is, h));
-          }
+    pub runs_below : left.begun.run ≤ k
+    runs_below = let first = (next_end named i.pair k ends i.last (sym i.ends ∙ some)).0 in let run = i.run in omega (arith, first, run)
 
-      module _ (next : Begun) (n : next ≡ begun_after named begun k) where
-        left_is : parts_from named begun left ≡ ended_before begun (2 * k + bit) (parts_from named next ends)
-        left_is =
-            ap (λ (l : List ℕ). parts_from named begun l) some
-            ∙ ap (λ (m : ℕ). ended_before begun m (parts_from named (begun_after named begun k) ends)) (sym end_is.is)
-            ∙ ap (λ (x : Begun). ended_before begun (2 * k + bit) (parts_from named x ends)) (sym n)
+  module _ (left next : RunsLeft) (k : ℕ) (i : IsLeft split left) (some : ends_left left.ends ≡ k ∷ ends_left next.ends)
+      (n : next.begun ≡ begun_after named left.begun k) where
+    pub next_left : IsLeft split next
+    next_left =
+        let run = ap (λ (x : Begun). x.run) n in
+        let from = ap (λ (x : Begun). x.from) n in
+        let below = pair_below left k (ends_left next.ends) i some in
+        let runs = runs_below left k (ends_left next.ends) i some in
+        let near = (end_near named k below).0 in
+        record {
+          pair = k + 1;
+          last = omega (arith, below);
+          ends = (next_end named i.pair k (ends_left next.ends) i.last (sym i.ends ∙ some)).4;
+          run = omega (arith, run, runs);
+          from = omega (arith, from, near);
+        }
 
-        -- a run ends there
-        pub cut_here : begun.from < 2 * k + bit →
-            Next (split_places split) split.bytes (part_to begun (2 * k + bit)) (parts_from named begun left) (parts_from named next ends)
-        cut_here h =
-            next_part (split_places split) split.bytes (places_long split) split.sized i.low (part_to begun (2 * k + bit)) (parts_from named begun left)
-            (parts_from named next ends) (left_is ∙ some_before begun (2 * k + bit) (parts_from named next ends) h) i.are
+    left_is : left_cells split left ≡ begun_cells places split.bytes left.begun (end_at named k) ++ left_cells split next
+    left_is =
+        ap (cells_to split left.begun) some
+        ∙ ap (λ (b : Begun). begun_cells places split.bytes left.begun (end_at named k) ++ cells_to split b (ends_left next.ends))
+        (sym n)
 
-        -- or it had no byte
-        pub none_here : 2 * k + bit ≤ begun.from → parts_from named begun left ≡ parts_from named next ends
-        none_here h = left_is ∙ none_before begun (2 * k + bit) (parts_from named next ends) h
+    -- the run that ends there had no byte
+    pub none_here : end_at named k ≤ left.begun.from → left_cells split left ≡ left_cells split next
+    none_here h =
+        let below = pair_below left k (ends_left next.ends) i some in
+        let most = (end_near named k below).1 in
+        let long = places_long split in
+        left_is ∙ ap (λ (l : List Cell). l ++ left_cells split next)
+        (none_yet places split.bytes left.begun (end_at named k) h (omega (arith, most, long)))
 
-        -- the cells from the next pair on
-        pub next_at : (low : ℕ) → AreParts low 8 15 (parts_from named next ends) → IsAt next ends
-        next_at low are =
-            let run = ap (λ (x : Begun). x.run) n in
-            let from = ap (λ (x : Begun). x.from) n in
-            let e = end_is in record {
-              pair = k + 1;
-              last = (let h = pair_below in omega arith);
-              ends = (next_end named i.pair k ends i.last (sym i.ends ∙ some)).4;
-              run = (let a = i.run in let b' = e.first in omega (arith, run, a, b'));
-              from = (let a = e.near in let b' = e.is in omega (arith, from, a, b'));
-              low = low;
-              are = are;
-            }
-
-  -- before the first of them
-  pub all_here : (s : IsSplit split) (begun : Begun) → begun.source ≡ split.id → begun.run ≡ 0 → begun.from ≡ 0 →
-      AreAll named (frame_places split.frame.now) split.id (split_places split) split.bytes (places_long split) split.sized s.placed
-      (parts_from named begun (ends_left split.ends))
-  all_here s begun source run from =
-      all_of named (frame_places split.frame.now) split.id (split_places split) split.bytes (places_long split) split.sized s.placed
-      begun (ends_left split.ends) source run from s.ends
-
-  pub starts_at : (s : IsSplit split) (begun : Begun) → begun.source ≡ split.id → begun.run ≡ 0 → begun.from ≡ 0 →
-      IsAt begun (ends_left split.ends)
-  starts_at s begun source run from = record {
-    pair = 0;
-    last = omega arith;
-    ends = s.ends;
-    run = omega arith;
-    from = omega arith;
-    low = 0;
-    are = (all_here s begun source run from).are;
-  }
-
-  -- after the last
-  pub none_left : (begun : Begun) (left : List ℕ) → left ≡ [] → length (rest_of begun left) ≡ 0
-  none_left begun left e = ap (λ (l : List ℕ). length (rest_of begun l)) e
+    -- or it is the first one
+    pub first_here : left.begun.from < end_at named k →
+        IsFirstRun (left_cells split left) (begun_cells places split.bytes left.begun (end_at named k)) (left_cells split next)
+    first_here h =
+        let j = next_left in
+        let more = left_are (ends_left next.ends) j.pair next.begun j.last j.ends j.run in
+        let below = pair_below left k (ends_left next.ends) i some in
+        let most = (end_near named k below).1 in
+        let part = part_to left.begun (end_at named k) in
+        let parts = parts_from named next.begun (ends_left next.ends) in
+        let own = begun_cells places split.bytes left.begun (end_at named k) in
+        record {
+          parts = left_is;
+          size =
+              part_run places split.bytes (places_long split) split.sized left.begun.run 8 15 part parts (omega arith) (
+                (let e : left.begun.run ≤ left.begun.run = omega arith in e),
+                h,
+                most,
+                subst (λ (b : Begun). AreParts b.run 8 15 parts) n more.are,
+              )
+              ∙ ap (λ (l : List Cell). run_length (own ++ l)) (sym more.cells) ∙ ap run_length (sym left_is);
+        }

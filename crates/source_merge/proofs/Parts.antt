@@ -6,9 +6,9 @@ use Rattle.source_merge.specs.Names.{Cell, runs_of, run_length, more_of, RisesFr
 use Rattle.source_merge.specs.Names.{run_cells}
 use Rattle.frame_grammar.proofs.Pairs.{made}
 use Rattle.source_events.proofs.Merges.{test_same, test_other}
-use Rattle.source_merge.proofs.DataCells.{cells_length, cells_id}
+use Rattle.source_merge.proofs.DataCells.{cells_length}
 use Rattle.source_merge.proofs.Framing.{FirstRun, cut_at, first_at}
-use Rattle.source_merge.specs.Routing.{IsRunOf}
+use Rattle.source_merge.specs.Split.{IsFirstRun}
 use Rattle.source_merge.proofs.Splitting.{Part, AreParts, cells_of_parts, part_cells}
 
 -- the first of these cells, if there is one, has a later run
@@ -99,39 +99,14 @@ module _ (offsets bytes : List ℕ) (places : length offsets ≡ 16) (sized : le
       one_run (drop p.from (take p.end offsets)) p.source p.run (drop p.from (take p.end bytes)) (cells_of_parts offsets bytes parts)
       (omega arith) (omega arith) (later_parts p.run next end parts h a.3)
 
--- parts of a frame, the first of them, and those that come after it
-pub record Next (offsets bytes : List ℕ) (p : Part) (left more : List Part) : Type 0 where
-  pub run : IsRunOf p.source (part_cells offsets bytes p)
-  pub count : length (part_cells offsets bytes p) ≡ p.end - p.from
-  pub first : FirstRun (cells_of_parts offsets bytes left) (part_cells offsets bytes p) (cells_of_parts offsets bytes more)
-  pub are : AreParts (p.run + 1) 8 15 more
-
-pub next : (offsets bytes : List ℕ) → length offsets ≡ 16 → length bytes ≡ 40 → (low : ℕ) (p : Part) (left more : List Part) →
-    left ≡ p ∷ more → AreParts low 8 15 left → Next offsets bytes p left more
-next offsets bytes long wide low p left more at h =
-    let are : AreParts low 8 15 (p ∷ more) = subst (λ (l : List Part). AreParts low 8 15 l) at h in
-    let xs = part_cells offsets bytes p in
-    let ys = cells_of_parts offsets bytes more in
-    let places = part_places offsets bytes long wide p are.2 in
-    let sized = part_sized offsets bytes long wide p are.2 in
-    let filled : p.from < p.end = are.1 in
-    let within : p.end ≤ 15 = are.2 in
-    let count : length xs ≡ p.end - p.from = part_length offsets bytes long wide p are.2 in
-    let is : cells_of_parts offsets bytes left ≡ xs ++ ys = ap (cells_of_parts offsets bytes) at in
-    let sum : length (xs ++ ys) ≡ length xs + length ys = length-append xs ys in
-    let one : length xs ≡ run_length (xs ++ ys) = part_run offsets bytes long wide low 8 15 p more (omega arith) are in
-    let some : 0 < length (xs ++ ys) = omega arith in
+-- a first run is first in what its source and the report see
+pub first_run : (cells run rest : List Cell) → IsFirstRun cells run rest → 0 < length run → FirstRun cells run rest
+first_run cells run rest i some =
+    let sum : length (run ++ rest) ≡ length run + length rest = length-append run rest in
+    let one : length run ≡ run_length (run ++ rest) = i.size ∙ ap run_length i.parts in
+    let all : 0 < length (run ++ rest) = omega (arith, sum, some) in
     record {
-      run = record {
-        own = cells_id (drop p.from (take p.end offsets)) p.source p.run (drop p.from (take p.end bytes)) (omega arith) (omega arith);
-        some = omega arith;
-        few = omega arith;
-      };
-      count = count;
-      first = record {
-        cut = ap runs_of is ∙ run_then xs ys one some;
-        total = ap length is ∙ sum;
-        rises = λ n r. run_at xs ys one some n (subst (λ (l : List Cell). RisesFrom n l) is r);
-      };
-      are = are.3;
+      cut = ap runs_of i.parts ∙ run_then run rest one all;
+      total = ap length i.parts ∙ sum;
+      rises = λ n r. run_at run rest one all n (subst (λ (l : List Cell). RisesFrom n l) i.parts r);
     }

@@ -3,8 +3,9 @@ use Rattle.std.proofs.Common.{◌≡◌, ℕ, ◌+◌, ◌-◌, ◌<◌, List, l
 use Rattle.std.proofs.lemmas.List.{drop-take, get_or-drop, get_or-take}
 use Rattle.source_merge.specs.Names.{Cell, bytes_of}
 use Rattle.source_merge.specs.declared.split.SplitRun.{SplitRun}
+use Rattle.source_merge.specs.Routing.{IsRunOf}
 use Rattle.source_merge.specs.Split.{run_in, split_places}
-use Rattle.source_merge.proofs.DataCells.{cells_bytes, cells_cell}
+use Rattle.source_merge.proofs.DataCells.{cells_bytes, cells_cell, cells_id}
 use Rattle.source_merge.proofs.Parts.{part_length, part_places, part_sized}
 use Rattle.source_merge.proofs.Splitting.{part_to, places_long}
 
@@ -52,3 +53,16 @@ module _ (run : SplitRun) where
       (get_or-drop from (take end places) i 0 ∙ get_or-take end places (from + i) 0 (omega arith))
       ∙ ap (λ (x : ℕ). record { at = get_or places (from + i) 0; id = run.begun.source; run = run.begun.run; byte = x })
       (get_or-drop from (take end bytes) i 0 ∙ get_or-take end bytes (from + i) 0 (omega arith))
+
+  pub run_own : IsRunOf run.begun.source (run_in run)
+  run_own =
+      let a = own_places in
+      let b = own_bytes in
+      let l = run_length in
+      let some = run.some in
+      let within = run.within in
+      record {
+        own = cells_id (drop from (take end places)) run.begun.source run.begun.run (drop from (take end bytes)) (omega arith) (omega arith);
+        some = omega arith;
+        few = omega arith;
+      }

@@ -1,10 +1,12 @@
 -- A frame that is taken apart into the runs of its sources.
-use Rattle.std.specs.Prelude.{◌≡◌, ℕ, ◌+◌, ◌*◌, ◌/◌, ◌%◌, ◌^◌, ◌<◌, List, take, drop, slice_index}
-use Rattle.source_merge.specs.Names.{Cell, cells, places_of, run_cells, byte_in, place_in, frame_places}
-use Rattle.source_merge.specs.Names.{ends_from, ends_left}
+use Rattle.std.specs.Prelude.{◌≡◌, ℕ, ◌+◌, ◌*◌, ◌/◌, ◌%◌, ◌^◌, ◌<◌, ◌≤◌, List, [], ◌∷◌, ◌++◌, length, take, drop}
+use Rattle.std.specs.Prelude.{slice_index}
+use Rattle.source_merge.specs.Names.{Cell, cells, places_of, run_cells, run_length, byte_in, place_in, frame_places}
+use Rattle.source_merge.specs.Names.{ends_from, ends_left, source_id}
 use Rattle.frame_runs.specs.Pairs.{end_at}
 use Rattle.source_merge.specs.declared.slot.Slot.{Slot}
 use Rattle.source_merge.specs.declared.split.Begun.{Begun}
+use Rattle.source_merge.specs.declared.split.RunsLeft.{RunsLeft}
 use Rattle.source_merge.specs.declared.split.SplitFrame.{SplitFrame}
 use Rattle.source_merge.specs.declared.split.SplitRun.{SplitRun}
 
@@ -41,3 +43,32 @@ pub record IsSplit (split : SplitFrame) : Type 0 where
 -- it can be taken to any slots
 abbrev pub suits_split : SplitFrame → List Slot → Type 0
 suits_split split slots = IsSplit split
+
+-- what begins where a run ends at this pair
+abbrev pub begun_after : List ℕ → Begun → ℕ → Begun
+begun_after frame begun k =
+    record { source = source_id (slice_index frame (2 * k) / 2); run = begun.run + 1; from = end_at frame k + 1 }
+
+-- the cells of a frame from the run that has begun on, where its runs end at these pairs from there on
+abbrev pub cells_to : SplitFrame → Begun → List ℕ → List Cell
+cells_to split begun [] = []
+cells_to split begun (k ∷ ends) =
+    begun_cells (split_places split) split.bytes begun (end_at split.frame.now.bytes k)
+    ++ cells_to split (begun_after split.frame.now.bytes begun k) ends
+
+-- those of the runs that are left
+abbrev pub left_cells : SplitFrame → RunsLeft → List Cell
+left_cells split left = cells_to split left.begun (ends_left left.ends)
+
+-- They end at the frame's ends from a pair on. The first of them began before it, or there.
+pub record IsLeft (split : SplitFrame) (left : RunsLeft) : Type 0 where
+  pub pair : ℕ
+  pub last : pair ≤ 8
+  pub ends : ends_left left.ends ≡ ends_from split.frame.now.bytes pair
+  pub run : left.begun.run ≤ pair
+  pub from : left.begun.from ≤ 2 * pair
+
+-- this run is the first one of these cells, and the rest follow it
+pub record IsFirstRun (cells run rest : List Cell) : Type 0 where
+  pub parts : cells ≡ run ++ rest
+  pub size : length run ≡ run_length cells

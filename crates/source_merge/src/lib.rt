@@ -19,5 +19,8 @@ mod tails;
 pub use counts::PerSource;
 pub use engine::{Engine, GREATEST_OFFSET};
 pub use flow::{Fed, Flow};
+pub use piece::PieceRun;
 pub use receiver::Receiver;
+pub use run::{CellRun, Run};
 pub use slot::{EVENTS, Events};
+pub use split::{RunsLeft, SplitFrame, SplitRun};

@@ -1,6 +1,6 @@
 //! A whole frame that is taken apart into the runs of its sources.
 
-ghost use Rattle.std.specs.Prelude.{◌≡◌, ◌≤◌, ◌<◌, ◌+◌, ◌^◌, length};
+ghost use Rattle.std.specs.Prelude.{◌≡◌, ◌≤◌, ◌<◌, ◌+◌, ◌^◌, length, Option};
 ghost use Rattle.source_merge.specs.declared.split.TheConstants.{DATA_BYTES};
 ghost use Rattle.source_merge.specs.declared.run.TheConstants.{ROOM};
 
@@ -30,6 +30,15 @@ struct Begun {
     from: usize,
 }
 
+/// The runs of a frame that are still to be taken.
+#[derive(Clone, Copy, Drop)]
+pub struct RunsLeft {
+    /// The first of them.
+    begun: Begun,
+    /// The pairs at which they end.
+    ends: RunEnds,
+}
+
 /// A whole frame, whose data are in their places.
 #[derive(Drop)]
 pub struct SplitFrame<'a> {
@@ -49,14 +58,16 @@ pub struct SplitFrame<'a> {
     ghost near: { frame.now.at + 255 < 2 ^ 64 },
 }
 
-impl SplitFrame<'_> {
-    ghost use Rattle.std.specs.Prelude.{drop, slice_index};
+impl<'f> SplitFrame<'f> {
+    ghost use Rattle.std.specs.Prelude.{◌*◌, ◌/◌, [], None, IfSome, drop, slice_index};
+    ghost use Rattle.source_merge.specs.Names.{source_id};
     ghost use Rattle.frame_grammar.specs.declared.frame.TheConstants.{FRAME_BYTES};
-    ghost use Rattle.source_merge.specs.Split.{IsSplit};
+    ghost use Rattle.frame_runs.specs.Pairs.{end_at};
+    ghost use Rattle.source_merge.specs.Split.{IsFirstRun, IsLeft, IsSplit, left_cells, run_in, split_cells};
 
     /// This frame, which comes after this ID.
     #[inline(always)]
-    pub fn of<'a>(frame: &'a PlacedFrame, id: &Option<SourceId>) -> SplitFrame<'a>
+    pub fn of(frame: &'f PlacedFrame, id: &Option<SourceId>) -> SplitFrame<'f>
         requires near { frame.now.at + 255 < 2 ^ 64 }
         ensures frame { result.frame.now ≡ frame.now }
         ensures id { result.id ≡ id.now }
@@ -73,6 +84,78 @@ impl SplitFrame<'_> {
             late: late_ends(&frame.bytes),
             id: *id,
         }
+    }
+
+    /// All its runs.
+    #[inline(always)]
+    pub fn runs(&self) -> RunsLeft
+        requires { IsSplit self.now }
+        ensures left { IsLeft self.now result }
+        ensures all { left_cells self.now result ≡ split_cells self.now }
+    {
+        RunsLeft {
+            begun: Begun {
+                source: self.id,
+                run: 0,
+                from: 0,
+            },
+            ends: self.ends,
+        }
+    }
+
+    /// The next of its runs that are left, which is then taken from them.
+    #[inline(always)]
+    pub fn next_run<'a>(&'a self, left: &mut RunsLeft) -> Option<SplitRun<'a, 'f>>
+        requires split { IsSplit self.now }
+        requires left { IsLeft self.now left.old }
+        ensures left { IfSome result (λ run. IsLeft self.now left.new) }
+        ensures none { result ≡ None → left_cells self.now left.old ≡ [] }
+        ensures first { IfSome result (λ run.
+            IsFirstRun (left_cells self.now left.old) (run_in run) (left_cells self.now left.new)) }
+    {
+        while let Some(pair) = left.ends.next() {
+            let end = self.end_of(pair);
+            let begun = left.begun;
+            left.begun = self.begun_after(begun.run, pair, end);
+            if begun.from < end {
+                return Some(SplitRun {
+                    frame: self,
+                    begun,
+                    end,
+                });
+            }
+        }
+        None
+    }
+
+    /// What begins where the run of this number ends, at this pair and before this index.
+    #[inline(always)]
+    fn begun_after(&self, run: u8, pair: usize, end: usize) -> Begun
+        requires pair { pair < 8 }
+        requires run { run ≤ pair }
+        requires end { end ≤ DATA_BYTES }
+        ensures { result ≡ record {
+          source = source_id (slice_index self.now.frame.now.bytes (2 * pair) / 2);
+          run = run + 1;
+          from = end + 1;
+        } }
+    {
+        Begun {
+            source: SourceId::new(self.frame.bytes[2 * pair] / 2),
+            run: run + 1,
+            from: end + 1,
+        }
+    }
+
+    /// The index after the last byte of the run that ends at this pair.
+    #[inline(always)]
+    fn end_of(&self, pair: usize) -> usize
+        requires split { IsSplit self.now }
+        requires pair { pair < 8 }
+        ensures is { result ≡ end_at self.now.frame.now.bytes pair }
+        ensures within { result ≤ DATA_BYTES }
+    {
+        2 * pair + usize::from((self.late >> pair) % 2)
     }
 
     /// Its data from an index on.
@@ -112,6 +195,19 @@ pub struct SplitRun<'a, 'f> {
     end: usize,
     ghost some: { begun.from < end },
     ghost within: { end ≤ DATA_BYTES },
+}
+
+impl SplitRun<'_, '_> {
+    ghost use Rattle.source_merge.specs.Routing.{IsRunOf};
+    ghost use Rattle.source_merge.specs.Split.{run_in};
+
+    /// The source of its bytes, if they have one.
+    #[inline(always)]
+    pub fn source(&self) -> Option<SourceId>
+        ensures { IsRunOf result (run_in self.now) }
+    {
+        self.begun.source
+    }
 }
 
 impl Run for SplitRun<'_, '_> {
@@ -162,31 +258,13 @@ impl FrameCells for SplitFrame<'_> {
         out: &mut V,
         to: &mut V::To,
     ) -> Option<Stop> {
-        let frame = &self.frame.bytes;
-        let mut ends = self.ends;
-        let mut begun = Begun {
-            source: self.id,
-            run: 0,
-            from: 0,
-        };
-        while let Some(pair) = ends.next() {
-            let end = 2 * pair + usize::from((self.late >> pair) % 2);
-            if begun.from < end {
-                let run = SplitRun {
-                    frame: self,
-                    begun,
-                    end,
-                };
-                counts.add_run(&begun.source, (end - begun.from) as u64);
-                if let Some(stop) = take_run(slots, &begun.source, &run, items, out, to) {
-                    return Some(stop);
-                }
+        let mut left = self.runs();
+        while let Some(run) = self.next_run(&mut left) {
+            let id = run.source();
+            counts.add_run(&id, run.len() as u64);
+            if let Some(stop) = take_run(slots, &id, &run, items, out, to) {
+                return Some(stop);
             }
-            begun = Begun {
-                source: SourceId::new(frame[2 * pair] / 2),
-                run: begun.run + 1,
-                from: end + 1,
-            };
         }
         None
     }

@@ -16,3 +16,4 @@ pub mod PacketPieces
 pub mod PartPieces
 pub mod PartsPieces
 pub mod Pairs
+pub mod Afterwards

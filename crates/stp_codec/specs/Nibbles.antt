@@ -14,6 +14,11 @@ abbrev pub nibbles_from : ℕ → ℕ → ℕ → List Placed
 nibbles_from zero at byte = low_of at byte ∷ (high_of at byte ∷ [])
 nibbles_from (suc half) at byte = high_of at byte ∷ []
 
+-- those after it
+abbrev pub nibbles_after : ℕ → ℕ → ℕ → List Placed
+nibbles_after zero at byte = high_of at byte ∷ []
+nibbles_after (suc half) at byte = []
+
 -- and those before this half of it, and up to it
 abbrev pub nibbles_before : ℕ → ℕ → ℕ → List Placed
 nibbles_before zero at byte = []

@@ -3,11 +3,12 @@
 //! Packets and their nibbles are those of the MIPI System Trace Protocol, version 2. That the low nibble of a byte
 //! comes first, and that a hunt begins at a fault's nibble, is this project's profile.
 
-ghost use Rattle.std.specs.Prelude.{◌≡◌, ℕ, ◌+◌, ◌<◌, ◌≤◌, List, true};
+ghost use Rattle.std.specs.Prelude.{◌≡◌, ℕ, ◌+◌, ◌<◌, ◌≤◌, List, None, [], false, true};
 ghost use Rattle.stp_codec.specs.Names.{Placed, HasRoom, Tells, COUNT_ROOM, Hunting, IsProperItem};
 ghost use Rattle.stp_codec.specs.Decoder.{IsSettled, Reads, ReadsAt, StandsAt, has_locked, held_of, is_hunter, is_live};
 ghost use Rattle.stp_codec.specs.Decoder.{order_of, read_of, skipped_by};
-ghost use Rattle.stp_codec.specs.Nibbles.{ReadsByte, TakesNibble, TakesNibbles, nibbles_from};
+ghost use Rattle.stp_codec.specs.Nibbles.{ReadsByte, TakesNibble, TakesNibbles, nibbles_after, nibbles_from};
+ghost use Rattle.stp_codec.specs.Reading.{items_at};
 
 use crate::decoder::{MANY, StpDecoder};
 use stp_grammar::item::StpItem;
@@ -161,5 +162,25 @@ impl StpDecoder {
         decoder.settle();
         decoder.take_nibble(at, 1, byte / 16);
         decoder
+    }
+
+    /// A decoder of nibbles that begin with a packet, which has taken those of the byte at this offset after this half:
+    /// the high one at 0, else none. One nibble gives nothing and is no fault.
+    pub fn aligned_after(order: Order, at: u64, half: u8, byte: u8) -> StpDecoder
+        ensures list { StandsAt result (nibbles_after half at byte) }
+        ensures given { (items_at order false (nibbles_after half at byte)).given ≡ [] }
+        ensures sound { (items_at order false (nibbles_after half at byte)).fault ≡ None }
+        ensures mode { is_hunter result ≡ false }
+        ensures order { order_of result ≡ order }
+        ensures live { is_live result ≡ true }
+        ensures few { held_of result + skipped_by result ≤ 2 }
+    {
+        let mut reader = StpDecoder::aligned(order);
+        if half == 0 {
+            reader.settle();
+            reader.take_nibble(at, 1, byte / 16);
+            return reader;
+        }
+        reader
     }
 }

@@ -1,5 +1,5 @@
 -- The shortest nibbles of packets, one after the other, read as these packets.
-use Rattle.std.proofs.Common.{◌≡◌, ℕ, List, [], ◌++◌, map}
+use Rattle.std.proofs.Common.{◌≡◌, List, ◌++◌, map}
 use Rattle.stp_encoder.specs.Names.{Placed, units_of, progress_from, Order, StpPacket, short}
 use Rattle.trace_values.specs.Placed.{Place}
 use Rattle.trace_values.specs.Walk.{by_unit}

@@ -40,10 +40,6 @@ pub items_unmarked : (items : List StpItem) → items_in (unmarked items) ≡ it
 items_unmarked [] = refl
 items_unmarked (item ∷ items) = ap (λ (l : List StpItem). item ∷ l) (items_unmarked items)
 
-pub unmarked_append : (items more : List StpItem) → unmarked (items ++ more) ≡ unmarked items ++ unmarked more
-unmarked_append [] more = refl
-unmarked_append (item ∷ items) more = ap (λ (l : List Put). Of item ∷ l) (unmarked_append items more)
-
 -- packets for more items are after the others
 pub packets_front : (before : List StpPacket) (items : List StpItem) → (rest : List StpPacket) × (packets_after before items ≡ before ++ rest)
 packets_front before [] = ([], sym (append-nil before))

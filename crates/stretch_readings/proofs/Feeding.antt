@@ -95,25 +95,68 @@ module _ {V : Type 0} (reads : Bool → List Placed → Stream V) where
   no_fault_by at (Locked skipped half v) e = refl
   no_fault_by at (Faulty f) e = cc
 
+  -- what a stretch tells with more units, with units up to a fault, and where its reading gives nothing
+  pub told_longer : (r : Stretches) (w : List Placed) (at : ℕ) (s : Step V) →
+      (reads r.now.hunts r.now.units).fault ≡ None → goes_on s ≡ true →
+      Grows (reads r.now.hunts r.now.units) (reads r.now.hunts (r.now.units ++ w)) at s →
+      told reads from_fault (longer r w).now ≡ told reads from_fault r.now ++ said_by at (raised r.now.count s)
+  told_longer r w at s none on g =
+      let h = heard reads from_fault r.now.count in
+      let old = reads r.now.hunts r.now.units in
+      let new = reads r.now.hunts (r.now.units ++ w) in
+      let was : told reads from_fault r.now ≡ map h old.given =
+      ap (λ o. map h old.given ++ broken reads from_fault o) none ∙ append-nil (map h old.given) in
+      ap (λ o. map h new.given ++ broken reads from_fault o) (g.fault ∙ no_fault_by at s on)
+      ∙ append-nil (map h new.given)
+      ∙ ap (map h) g.given ∙ map-append h old.given (given_by at s)
+      ∙ ap (λ l. map h old.given ++ l) (heard_step r.now.count at s on)
+      ∙ ap (λ l. l ++ said_by at (raised r.now.count s)) (sym was)
+
+  pub told_broken : (r : Stretches) (w : List Placed) (at : ℕ) (f : Fault) →
+      (reads r.now.hunts r.now.units).fault ≡ None →
+      Grows (reads r.now.hunts r.now.units) (reads r.now.hunts (r.now.units ++ w)) at (Faulty f) →
+      told reads from_fault (longer r w).now ≡ told reads from_fault r.now ++ said_by at (Faulty f)
+  told_broken r w at f none g =
+      let h = heard reads from_fault r.now.count in
+      let old = reads r.now.hunts r.now.units in
+      let new = reads r.now.hunts (r.now.units ++ w) in
+      let was : told reads from_fault r.now ≡ map h old.given =
+      ap (λ o. map h old.given ++ broken reads from_fault o) none ∙ append-nil (map h old.given) in
+      ap (λ o. map h new.given ++ broken reads from_fault o) g.fault
+      ∙ ap (λ l. map h l ++ said_by at (Faulty f)) (g.given ∙ append-nil old.given)
+      ∙ ap (λ l. l ++ said_by at (Faulty f)) (sym was)
+
+  pub told_none : (s : Stretch) → (reads s.hunts s.units).given ≡ [] → (reads s.hunts s.units).fault ≡ None →
+      told reads from_fault s ≡ []
+  told_none s quiet sound =
+      ap (λ l. map (heard reads from_fault s.count) l ++ broken reads from_fault (reads s.hunts s.units).fault) quiet
+      ∙ ap (broken reads from_fault) sound
+
   pub given_longer : (r : Stretches) (w : List Placed) (at : ℕ) (s : Step V) →
       (reads r.now.hunts r.now.units).fault ≡ None → goes_on s ≡ true →
       Grows (reads r.now.hunts r.now.units) (reads r.now.hunts (r.now.units ++ w)) at s →
       (heard_of reads from_fault (longer r w)).given
       ≡ (heard_of reads from_fault r).given ++ said_by at (raised r.now.count s)
   given_longer r w at s none on g =
-      let h = heard reads from_fault r.now.count in
-      let old = reads r.now.hunts r.now.units in
-      let new = reads r.now.hunts (r.now.units ++ w) in
       let past = flat_map (told reads from_fault) r.past in
-      let was : told reads from_fault r.now ≡ map h old.given =
-      ap (λ o. map h old.given ++ broken reads from_fault o) none ∙ append-nil (map h old.given) in
-      let is : told reads from_fault (longer r w).now ≡ map h old.given ++ said_by at (raised r.now.count s) =
-      ap (λ o. map h new.given ++ broken reads from_fault o) (g.fault ∙ no_fault_by at s on)
-      ∙ append-nil (map h new.given)
-      ∙ ap (map h) g.given ∙ map-append h old.given (given_by at s)
-      ∙ ap (λ l. map h old.given ++ l) (heard_step r.now.count at s on) in
-      ap (λ l. past ++ l) (is ∙ ap (λ l. l ++ said_by at (raised r.now.count s)) (sym was))
+      ap (λ l. past ++ l) (told_longer r w at s none on g)
       ∙ sym (append_assoc past (told reads from_fault r.now) (said_by at (raised r.now.count s)))
+
+  -- and what all tell with a new stretch, whose reading gives nothing yet
+  pub given_next : (r : Stretches) (w : List Placed) (next : Stretch) (at : ℕ) (f : Fault) →
+      (reads r.now.hunts r.now.units).fault ≡ None →
+      Grows (reads r.now.hunts r.now.units) (reads r.now.hunts (r.now.units ++ w)) at (Faulty f) →
+      told reads from_fault next ≡ [] →
+      (heard_of reads from_fault (record { past = r.past ++ (longer r w).now ∷ []; now = next })).given
+      ≡ (heard_of reads from_fault r).given ++ said_by at (Faulty f)
+  given_next r w next at f none g nothing =
+      let past = flat_map (told reads from_fault) r.past in
+      let s = (longer r w).now in
+      ap (λ l. flat_map (told reads from_fault) (r.past ++ s ∷ []) ++ l) nothing
+      ∙ append-nil (flat_map (told reads from_fault) (r.past ++ s ∷ []))
+      ∙ flat_map-append (told reads from_fault) r.past (s ∷ [])
+      ∙ ap (λ l. past ++ l) (append-nil (told reads from_fault s) ∙ told_broken r w at f none g)
+      ∙ sym (append_assoc past (told reads from_fault r.now) (said_by at (Faulty f)))
 
   pub given_fallen : (r : Stretches) (w next : List Placed) (at : ℕ) (f : Fault) →
       (reads r.now.hunts r.now.units).fault ≡ None →
@@ -121,36 +164,15 @@ module _ {V : Type 0} (reads : Bool → List Placed → Stream V) where
       (reads true next).given ≡ [] → (reads true next).fault ≡ None →
       (heard_of reads from_fault (fallen r w next)).given ≡ (heard_of reads from_fault r).given ++ said_by at (Faulty f)
   given_fallen r w next at f none g quiet sound =
-      let h = heard reads from_fault r.now.count in
-      let old = reads r.now.hunts r.now.units in
-      let new = reads r.now.hunts (r.now.units ++ w) in
-      let past = flat_map (told reads from_fault) r.past in
-      let n = fallen r w next in
-      let s : Stretch = record { hunts = r.now.hunts; count = r.now.count; units = r.now.units ++ w } in
-      let was : told reads from_fault r.now ≡ map h old.given =
-      ap (λ o. map h old.given ++ broken reads from_fault o) none ∙ append-nil (map h old.given) in
-      let is : told reads from_fault s ≡ told reads from_fault r.now ++ said_by at (Faulty f) =
-      ap (λ o. map h new.given ++ broken reads from_fault o) g.fault
-      ∙ ap (λ l. map h l ++ said_by at (Faulty f)) (g.given ∙ append-nil old.given)
-      ∙ ap (λ l. l ++ said_by at (Faulty f)) (sym was) in
-      let nothing : told reads from_fault n.now ≡ [] =
-      ap (λ l. map (heard reads from_fault n.now.count) l ++ broken reads from_fault (reads true next).fault) quiet
-      ∙ ap (broken reads from_fault) sound in
-      ap (λ l. flat_map (told reads from_fault) (r.past ++ s ∷ []) ++ l) nothing
-      ∙ append-nil (flat_map (told reads from_fault) (r.past ++ s ∷ []))
-      ∙ flat_map-append (told reads from_fault) r.past (s ∷ [])
-      ∙ ap (λ l. past ++ l) (append-nil (told reads from_fault s) ∙ is)
-      ∙ sym (append_assoc past (told reads from_fault r.now) (said_by at (Faulty f)))
+      given_next r w (fallen r w next).now at f none g (told_none (fallen r w next).now quiet sound)
 
   -- a cut says nothing
   pub given_parted : (r : Stretches) → (reads true []).given ≡ [] → (reads true []).fault ≡ None →
       (heard_of reads from_fault (parted reads from_fault r)).given ≡ (heard_of reads from_fault r).given
   given_parted r quiet sound =
       let past = flat_map (told reads from_fault) r.past in
-      let nothing : told reads from_fault (parted reads from_fault r).now ≡ [] =
-      ap (λ l. map (heard reads from_fault 0) l ++ broken reads from_fault (reads true []).fault) quiet
-      ∙ ap (broken reads from_fault) sound in
-      ap (λ l. flat_map (told reads from_fault) (r.past ++ r.now ∷ []) ++ l) nothing
+      ap (λ l. flat_map (told reads from_fault) (r.past ++ r.now ∷ []) ++ l)
+      (told_none (parted reads from_fault r).now quiet sound)
       ∙ append-nil (flat_map (told reads from_fault) (r.past ++ r.now ∷ []))
       ∙ flat_map-append (told reads from_fault) r.past (r.now ∷ [])
       ∙ ap (λ l. past ++ l) (append-nil (told reads from_fault r.now))

@@ -1,2 +1,4 @@
 pub mod Feeding
 pub mod StretchLaws
+pub mod Guesses
+pub mod Continuing

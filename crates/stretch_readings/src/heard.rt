@@ -9,4 +9,8 @@ pub enum Heard<T> {
     Read(T),
     /// A fault of the source, or of the port.
     Broken(Reason),
+    /// An item that is read in a hunt, as if a packet began at the unit after a fault.
+    Guessed(T),
+    /// A fault of such a reading.
+    Misread(Reason),
 }

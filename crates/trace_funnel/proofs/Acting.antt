@@ -5,7 +5,7 @@ use Rattle.std.proofs.Common.{append_assoc, append-nil, length-append, Option, N
 use Rattle.std.specs.Prelude.{◌==◌, not, ◌&&◌, ◌||◌, nat_le}
 use Rattle.std.specs.List.{list_any}
 use Rattle.std.proofs.lemmas.Bool.{cases_eq, eq-eqb, ne_eqb, and_parts, not-true}
-use Rattle.std.proofs.lemmas.List.{length-map}
+use Rattle.std.proofs.lemmas.List.{length-map, nil_from_length}
 use Rattle.trace_funnel.specs.declared.tagged.Tagged.{Tagged}
 use Rattle.trace_funnel.specs.Turns.{Place, waits, served, Found, first_busy, Turned, turn_of, turn, queue_of}
 use Rattle.trace_funnel.specs.Turns.{waited_of, put}
@@ -226,15 +226,11 @@ all_kept hold depth ids done a o x =
 no_load : (x : ℕ) (ps : List Place) → load ps ≡ 0 → queue_of x ps ≡ []
 no_load x [] h = refl
 no_load x (p ∷ ps) h = by (p.id == x) (no_load x ps (omega (arith, h))) where
-  none : (l : List ℕ) → length l ≡ 0 → l ≡ []
-  none [] e = refl
-  none (y ∷ l) e = absurd (omega arith)
-
   by : (t : Bool) → queue_of x ps ≡ [] → cond t p.queue (queue_of x ps) ≡ []
-  by true e = none p.queue (omega (arith, h))
+  by true e = nil_from_length p.queue (omega (arith, h))
   by false e = e
 
-offered_drain : (done : List Act) → offered (done ++ Drain ∷ []) ≡ offered done
+pub offered_drain : (done : List Act) → offered (done ++ Drain ∷ []) ≡ offered done
 offered_drain [] = refl
 offered_drain (Offer y ∷ rest) = ap (λ l. y ∷ l) (offered_drain rest)
 offered_drain (Turn ∷ rest) = offered_drain rest

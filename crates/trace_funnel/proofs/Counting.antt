@@ -86,11 +86,12 @@ wait_put x id b (p ∷ ps) = by (p.id == id) (wait_put x id b ps) where
   by false e = ap (λ m. cond (p.id == x) p.waited m) e
 
 -- of two lists that make none, neither has any
+pub none_of_both : (x y : List ℕ) → x ++ y ≡ [] → (x ≡ []) × (y ≡ [])
+none_of_both [] y e = (refl, e)
+none_of_both (w ∷ x) y e = absurd (cc)
+
 none_both : (id : ℕ) (a b : List Tagged) → bytes_for id (a ++ b) ≡ [] → (bytes_for id a ≡ []) × (bytes_for id b ≡ [])
-none_both id a b e = parts (bytes_for id a) (bytes_for id b) (sym (bytes_append id a b) ∙ e) where
-  parts : (x y : List ℕ) → x ++ y ≡ [] → (x ≡ []) × (y ≡ [])
-  parts [] y e = (refl, e)
-  parts (w ∷ x) y e = absurd (cc)
+none_both id a b e = none_of_both (bytes_for id a) (bytes_for id b) (sym (bytes_append id a b) ∙ e)
 
 -- the queue of a place that gives nothing stays
 stays : (x : List ℕ) (left queue : List ℕ) → x ++ left ≡ queue → x ≡ [] → left ≡ queue

@@ -10,7 +10,7 @@ mod Serving
 mod Rounding
 mod Fields
 mod Offering
-mod Counting
+pub mod Counting
 mod Giving
 pub mod Loading
 pub mod Naming

@@ -58,8 +58,8 @@ module _ (was now : List ℕ → Type 0) (m : Meaning) (limit : ℕ) (old mid ne
     outcome = (stands, kept_more kept.recent after.recent so_far.seen (take n piece) so_far.kept keeps);
   }
 
-  pub pump_write_failed : AppendsPrefix old.held new.held (m.text fed) → HasPumped now m limit old new after WriteFailed
-  pump_write_failed put = record { seen = fed; extra = extra; lost = all_lost; within = fed_within; at_most = all_at_most; outcome = put }
+  pub pump_write_failed : AppendsPrefix old.held new.held (m.text fed) → now fed → HasPumped now m limit old new after WriteFailed
+  pump_write_failed put stands = record { seen = fed; extra = extra; lost = all_lost; within = fed_within; at_most = all_at_most; outcome = (put, stands) }
 
   pub pump_over : StandsAfter now m (writing old new after) false fed → n ≡ length piece → count + length piece ≡ limit → count + length bytes ≡ limit + 1 → after.pending ≡ []
       → HasPumped now m limit old new after OverLimit

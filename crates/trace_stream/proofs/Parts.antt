@@ -9,7 +9,7 @@ use Rattle.trace_stream.specs.declared.outcome.Outcome.{Outcome}
 use Rattle.trace_stream.specs.declared.outcome.Outcome.TheVariants.{AtEnd, FaultFound, ReadFailed, WriteFailed, OverLimit}
 use Rattle.trace_stream.specs.BuffersState.{BuffersState}
 use Rattle.trace_stream.specs.Pumped.{HasPumped}
-use Rattle.trace_stream.specs.Served.{Meaning, IsLawful, Ends, IsAllRead, HasServed, HasStopped, HasEnded, text_at_stop}
+use Rattle.trace_stream.specs.Served.{Meaning, IsLawful, Ends, IsAllRead, HasServed, text_at_stop}
 
 -- the output went on after the reading
 abbrev pub written : Ends → Option (List ℕ) → Ends
@@ -19,111 +19,130 @@ written new held = record { left = new.left; held = held }
 first_bytes : (limit : ℕ) (seen extra : List ℕ) → length seen ≤ limit → take limit (seen ++ extra) ≡ seen ++ take (limit - length seen) extra
 first_bytes limit seen extra h = ap (λ n. take n (seen ++ extra)) (let e : limit ≡ length seen + (limit - length seen) = omega arith in e) ∙ take-append-add seen extra (limit - length seen)
 
--- at the input's end, where the action stands
-pub served_at_end : (stands : List ℕ → Type 0) (m : Meaning) (limit : ℕ) (old new : Ends) (buffers : BuffersState) (held : Option (List ℕ))
-    (pumped : HasPumped stands m limit old new buffers AtEnd) → Appends old.held held (m.text pumped.seen ++ m.ending pumped.seen)
-    → HasEnded stands m limit old (written new held) buffers.recent
-served_at_end stands m limit old new buffers held pumped put =
-    let served : HasServed m limit old (written new held) buffers.recent AtEnd = record {
-      bytes = pumped.seen;
-      out = m.text pumped.seen ++ m.ending pumped.seen;
-      lost = subst (Consumes old.left new.left) (ap (λ l. pumped.seen ++ l) pumped.outcome.1 ∙ append-nil pumped.seen) pumped.lost;
-      gained = put;
-      at_most = omega (arith, pumped.within);
-      outcome = (pumped.outcome.0.fault, pumped.within, refl);
-      ended = λ e. pumped.outcome.2;
-    } in
-    record { served = served; holds = pumped.outcome.0.read }
-
 -- a front of a front is one of the whole
 longer : {old held : Option (List ℕ)} {part whole : List ℕ} (prefix : AppendsPrefix old held part) → GrowsOnly part whole → GrowsOnly prefix.1.front whole
 longer prefix grows = (prefix.0 ++ grows.0, grows.1 ∙ ap (λ l. l ++ grows.0) prefix.1.all ∙ append_assoc prefix.1.front prefix.0 grows.0)
-
--- at a stop, where the action stands
-pub served_stopped : (stands : List ℕ → Type 0) (m : Meaning) (limit : ℕ) (old new : Ends) (buffers : BuffersState) (held : Option (List ℕ)) → IsLawful m
-    → (pumped : HasPumped stands m limit old new buffers FaultFound) → Appends old.held held (m.text pumped.seen ++ m.ending pumped.seen)
-    → HasStopped stands m limit old (written new held) buffers.recent
-served_stopped stands m limit old new buffers held lawful pumped put =
-    let more = take (limit - length pumped.seen) pumped.extra in
-    let front = first_bytes limit pumped.seen pumped.extra pumped.within in
-    let same_text : m.text (take limit (pumped.seen ++ pumped.extra)) ≡ m.text pumped.seen = ap m.text front ∙ lawful.text_stays pumped.seen more pumped.outcome.0.fault.broken in
-    let same_ending : m.ending (take limit (pumped.seen ++ pumped.extra)) ≡ m.ending pumped.seen = ap m.ending front ∙ lawful.ending_stays pumped.seen more pumped.outcome.0.fault.broken in
-    let served : HasServed m limit old (written new held) buffers.recent FaultFound = record {
-      bytes = pumped.seen ++ pumped.extra;
-      out = m.text pumped.seen ++ m.ending pumped.seen;
-      lost = pumped.lost;
-      gained = put;
-      at_most = omega (arith, pumped.at_most, length-append pumped.seen pumped.extra);
-      outcome = (record { seen = pumped.seen; rest = more; parts = front; certain = pumped.outcome.0.fault; broken = subst m.faulty (sym front) (lawful.faulty_stays pumped.seen more pumped.outcome.0.fault.broken) }, cc, pumped.outcome.1);
-      ended = λ e. cc;
-    } in
-    record { served = served; holds = pumped.outcome.0.read }
-
--- where a read failed, with what was due
-pub served_read_failed : (stands : List ℕ → Type 0) (m : Meaning) (limit : ℕ) (old new : Ends) (buffers : BuffersState) (held : Option (List ℕ))
-    (pumped : HasPumped stands m limit old new buffers ReadFailed) → Appends old.held held (text_at_stop m pumped.seen)
-    → HasServed m limit old (written new held) buffers.recent ReadFailed
-served_read_failed stands m limit old new buffers held pumped put = record {
-  bytes = pumped.seen;
-  out = text_at_stop m pumped.seen;
-  lost = subst (Consumes old.left new.left) (ap (λ l. pumped.seen ++ l) pumped.outcome.1 ∙ append-nil pumped.seen) pumped.lost;
-  gained = put;
-  at_most = omega (arith, pumped.within);
-  outcome = (pumped.outcome.0.fault, pumped.within, refl);
-  ended = λ e. cc;
-}
 
 -- the first bytes up to the limit are those seen, where they are as many
 limit_is : (limit : ℕ) (seen extra : List ℕ) → length seen ≡ limit → take limit (seen ++ extra) ≡ seen
 limit_is limit seen extra count = sym (ap (λ n. take n (seen ++ extra)) count) ∙ take-append_seam seen extra
 
--- and where the limit was passed
-pub served_over_limit : (stands : List ℕ → Type 0) (m : Meaning) (limit : ℕ) (old new : Ends) (buffers : BuffersState) (held : Option (List ℕ))
-    (pumped : HasPumped stands m limit old new buffers OverLimit) → Appends old.held held (text_at_stop m pumped.seen)
-    → HasServed m limit old (written new held) buffers.recent OverLimit
-served_over_limit stands m limit old new buffers held pumped put =
-    let count : length pumped.seen ≡ limit = pumped.outcome.1 in
-    let front = limit_is limit pumped.seen pumped.extra count in
-    record {
-      bytes = pumped.seen ++ pumped.extra;
-      out = text_at_stop m pumped.seen;
-      lost = pumped.lost;
-      gained = put;
-      at_most = omega (arith, pumped.at_most, length-append pumped.seen pumped.extra);
-      outcome = (subst (λ l. m.faulty l → ⊥) (sym front) pumped.outcome.0.fault, omega (arith, count, pumped.outcome.2, length-append pumped.seen pumped.extra), sym (ap (text_at_stop m) front));
-      ended = λ e. cc;
-    }
+-- What the action stood for after the reading it stands for at the end of the run.
+module _ (stands there : List ℕ → Type 0) (keeps : (seen : List ℕ) → stands seen → there seen) (m : Meaning) (limit : ℕ)
+    (old new : Ends) (buffers : BuffersState) (held : Option (List ℕ)) where
+  abbrev Served : Outcome → Type 0
+  Served result = HasServed there m limit old (written new held) buffers.recent result
 
--- a write that failed, where some prefix of the text was written
-pub served_in_part : (stands : List ℕ → Type 0) (m : Meaning) (limit : ℕ) (old new : Ends) (buffers : BuffersState) (held : Option (List ℕ)) (how : Outcome)
-    (pumped : HasPumped stands m limit old new buffers how) (part : List ℕ) → AppendsPrefix old.held held part
-    → GrowsOnly part (m.text (take limit (pumped.seen ++ pumped.extra)))
-    → HasServed m limit old (written new held) buffers.recent WriteFailed
-served_in_part stands m limit old new buffers held how pumped part prefix grows = record {
-  bytes = pumped.seen ++ pumped.extra;
-  out = prefix.1.front;
-  lost = pumped.lost;
-  gained = prefix.1.took;
-  at_most = omega (arith, pumped.at_most, length-append pumped.seen pumped.extra);
-  outcome = inl (longer prefix grows);
-  ended = λ e. cc;
-}
+  abbrev Pumped : Outcome → Type 0
+  Pumped result = HasPumped stands m limit old new buffers result
 
--- a write that failed once what comes after the text was due, where some prefix of both was written
-pub served_to_end : (stands : List ℕ → Type 0) (m : Meaning) (limit : ℕ) (old new : Ends) (buffers : BuffersState) (held : Option (List ℕ)) (how : Outcome)
-    (pumped : HasPumped stands m limit old new buffers how) (part : List ℕ) → AppendsPrefix old.held held part
-    → IsAllRead m.faulty limit new.left (pumped.seen ++ pumped.extra) ⊎ (m.due ≡ true)
-    → GrowsOnly part (m.text (take limit (pumped.seen ++ pumped.extra)) ++ m.ending (take limit (pumped.seen ++ pumped.extra)))
-    → HasServed m limit old (written new held) buffers.recent WriteFailed
-served_to_end stands m limit old new buffers held how pumped part prefix all grows = record {
-  bytes = pumped.seen ++ pumped.extra;
-  out = prefix.1.front;
-  lost = pumped.lost;
-  gained = prefix.1.took;
-  at_most = omega (arith, pumped.at_most, length-append pumped.seen pumped.extra);
-  outcome = inr (all, longer prefix grows);
-  ended = λ e. cc;
-}
+  -- at the input's end
+  pub served_at_end : (pumped : Pumped AtEnd) → Appends old.held held (m.text pumped.seen ++ m.ending pumped.seen) →
+      Served AtEnd
+  served_at_end pumped put = record {
+    bytes = pumped.seen;
+    out = m.text pumped.seen ++ m.ending pumped.seen;
+    lost = subst (Consumes old.left new.left) (ap (λ l. pumped.seen ++ l) pumped.outcome.1 ∙ append-nil pumped.seen) pumped.lost;
+    gained = put;
+    at_most = omega (arith, pumped.within);
+    outcome = (pumped.outcome.0.fault, pumped.within, refl);
+    ended = λ e. pumped.outcome.2;
+    fed = pumped.seen;
+    feeds = refl;
+    holds = keeps pumped.seen pumped.outcome.0.read;
+  }
+
+  -- at a stop
+  pub served_stopped : IsLawful m → (pumped : Pumped FaultFound) →
+      Appends old.held held (m.text pumped.seen ++ m.ending pumped.seen) → Served FaultFound
+  served_stopped lawful pumped put =
+      let more = take (limit - length pumped.seen) pumped.extra in
+      let front = first_bytes limit pumped.seen pumped.extra pumped.within in
+      let same_text : m.text (take limit (pumped.seen ++ pumped.extra)) ≡ m.text pumped.seen = ap m.text front ∙ lawful.text_stays pumped.seen more pumped.outcome.0.fault.broken in
+      let same_ending : m.ending (take limit (pumped.seen ++ pumped.extra)) ≡ m.ending pumped.seen = ap m.ending front ∙ lawful.ending_stays pumped.seen more pumped.outcome.0.fault.broken in
+      record {
+        bytes = pumped.seen ++ pumped.extra;
+        out = m.text pumped.seen ++ m.ending pumped.seen;
+        lost = pumped.lost;
+        gained = put;
+        at_most = omega (arith, pumped.at_most, length-append pumped.seen pumped.extra);
+        outcome = (record { seen = pumped.seen; rest = more; parts = front; certain = pumped.outcome.0.fault; broken = subst m.faulty (sym front) (lawful.faulty_stays pumped.seen more pumped.outcome.0.fault.broken) }, cc, pumped.outcome.1);
+        ended = λ e. cc;
+        fed = pumped.seen;
+        feeds = refl;
+        holds = keeps pumped.seen pumped.outcome.0.read;
+      }
+
+  -- where a read failed, with what was due
+  pub served_read_failed : (pumped : Pumped ReadFailed) → Appends old.held held (text_at_stop m pumped.seen) →
+      Served ReadFailed
+  served_read_failed pumped put = record {
+    bytes = pumped.seen;
+    out = text_at_stop m pumped.seen;
+    lost = subst (Consumes old.left new.left) (ap (λ l. pumped.seen ++ l) pumped.outcome.1 ∙ append-nil pumped.seen) pumped.lost;
+    gained = put;
+    at_most = omega (arith, pumped.within);
+    outcome = (pumped.outcome.0.fault, pumped.within, refl);
+    ended = λ e. cc;
+    fed = pumped.seen;
+    feeds = refl;
+    holds = keeps pumped.seen pumped.outcome.0.read;
+  }
+
+  -- and where the limit was passed
+  pub served_over_limit : (pumped : Pumped OverLimit) → Appends old.held held (text_at_stop m pumped.seen) →
+      Served OverLimit
+  served_over_limit pumped put =
+      let count : length pumped.seen ≡ limit = pumped.outcome.1 in
+      let front = limit_is limit pumped.seen pumped.extra count in
+      record {
+        bytes = pumped.seen ++ pumped.extra;
+        out = text_at_stop m pumped.seen;
+        lost = pumped.lost;
+        gained = put;
+        at_most = omega (arith, pumped.at_most, length-append pumped.seen pumped.extra);
+        outcome = (subst (λ l. m.faulty l → ⊥) (sym front) pumped.outcome.0.fault, omega (arith, count, pumped.outcome.2, length-append pumped.seen pumped.extra), sym (ap (text_at_stop m) front));
+        ended = λ e. cc;
+        fed = pumped.seen;
+        feeds = sym front;
+        holds = keeps pumped.seen pumped.outcome.0.read;
+      }
+
+  -- a write that failed, where some prefix of the text was written
+  pub served_in_part : (how : Outcome) (pumped : Pumped how) → stands pumped.seen → (part : List ℕ) →
+      AppendsPrefix old.held held part → GrowsOnly part (m.text (take limit (pumped.seen ++ pumped.extra))) →
+      Served WriteFailed
+  served_in_part how pumped read part prefix grows = record {
+    bytes = pumped.seen ++ pumped.extra;
+    out = prefix.1.front;
+    lost = pumped.lost;
+    gained = prefix.1.took;
+    at_most = omega (arith, pumped.at_most, length-append pumped.seen pumped.extra);
+    outcome = inl (longer prefix grows);
+    ended = λ e. cc;
+    fed = pumped.seen;
+    feeds = (take (limit - length pumped.seen) pumped.extra, first_bytes limit pumped.seen pumped.extra pumped.within);
+    holds = keeps pumped.seen read;
+  }
+
+  -- a write that failed once what comes after the text was due, where some prefix of both was written
+  pub served_to_end : (how : Outcome) (pumped : Pumped how) → stands pumped.seen → (part : List ℕ) →
+      AppendsPrefix old.held held part →
+      IsAllRead m.faulty limit new.left (pumped.seen ++ pumped.extra) ⊎ (m.due ≡ true) →
+      GrowsOnly part (m.text (take limit (pumped.seen ++ pumped.extra)) ++ m.ending (take limit (pumped.seen ++ pumped.extra))) →
+      Served WriteFailed
+  served_to_end how pumped read part prefix all grows = record {
+    bytes = pumped.seen ++ pumped.extra;
+    out = prefix.1.front;
+    lost = pumped.lost;
+    gained = prefix.1.took;
+    at_most = omega (arith, pumped.at_most, length-append pumped.seen pumped.extra);
+    outcome = inr (all, longer prefix grows);
+    ended = λ e. cc;
+    fed = pumped.seen;
+    feeds = (take (limit - length pumped.seen) pumped.extra, first_bytes limit pumped.seen pumped.extra pumped.within);
+    holds = keeps pumped.seen read;
+  }
 
 -- the text of the bytes seen is a front of that of all
 pub text_in_part : (text : List ℕ → List ℕ) (limit : ℕ) (seen extra : List ℕ) → ((xs ys : List ℕ) → GrowsOnly (text xs) (text (xs ++ ys))) → length seen ≤ limit

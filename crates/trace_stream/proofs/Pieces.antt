@@ -44,12 +44,16 @@ front_is piece fed rest n e =
 -- what is pending is to be written, and a write may fail
 module _ (was : List ℕ → Type 0) (m : Meaning) (w : Writing) (held : Option (List ℕ)) (pending seen piece rest : List ℕ)
     (so_far : IsFeeding was m w seen piece rest) where
-  pub feeding_write_failed : (now : List ℕ → Type 0) (result : Result Progress Failed) → IsErr result → AppendsPrefix w.held held w.pending → HasFed now m (later w held pending) seen piece result
-  feeding_write_failed now (Ok fed) err put = cc
-  feeding_write_failed now (Err failed) err put = (
+  fed_front : so_far.fed ≡ take (length so_far.fed) piece
+  fed_front = sym (ap (take (length so_far.fed)) so_far.parts ∙ take-append_seam so_far.fed rest)
+
+  pub feeding_write_failed : (result : Result Progress Failed) → IsErr result → AppendsPrefix w.held held w.pending → HasFed was m (later w held pending) seen piece result
+  feeding_write_failed (Ok fed) err put = cc
+  feeding_write_failed (Err failed) err put = (
     length so_far.fed,
-    subst (λ l. AppendsPrefix w.start held (m.text (seen ++ l))) (sym (ap (take (length so_far.fed)) so_far.parts ∙ take-append_seam so_far.fed rest))
+    subst (λ l. AppendsPrefix w.start held (m.text (seen ++ l))) fed_front
         (prefix_join w.start w.held held (m.text (seen ++ so_far.fed)) w.pending so_far.after.written put),
+    subst (λ l. was (seen ++ l)) fed_front so_far.after.read,
   )
 
   pub feeding_all : rest ≡ [] → Appends w.held held w.pending → pending ≡ []
@@ -110,14 +114,17 @@ module _ (was fed now : List ℕ → Type 0) (m : Meaning) (w : Writing) (held :
       subst (λ l. StandsAfter now m (later w held pending) true (seen ++ l)) (sym (front_is piece so_far.fed rest n so_far.parts)) (stands_more true taken put)
 
   -- the putting may fail
+  all_fed : (seen ++ so_far.fed) ++ take n rest ≡ seen ++ take (length piece - length rest + n) piece
+  all_fed = append_assoc seen so_far.fed (take n rest) ∙ ap (λ l. seen ++ l) (sym (front_is piece so_far.fed rest n so_far.parts))
+
   pub feeding_put_failed : (is_faulty : Bool) (result : Result Progress Failed) → IsErr result → HasTaken fed m turn is_faulty → AppendsPrefix w.held held owed
       → HasFed now m (later w held pending) seen piece result
   feeding_put_failed is_faulty (Ok fed) err taken put = cc
   feeding_put_failed is_faulty (Err failed) err taken put = (
     length piece - length rest + n,
-    subst (λ l. AppendsPrefix w.start held (m.text l))
-        (append_assoc seen so_far.fed (take n rest) ∙ ap (λ l. seen ++ l) (sym (front_is piece so_far.fed rest n so_far.parts)))
+    subst (λ l. AppendsPrefix w.start held (m.text l)) all_fed
         (prefix_join w.start w.held held text owed (text_more is_faulty taken) put),
+    subst now all_fed (keeps ((seen ++ so_far.fed) ++ take n rest) taken.read),
   )
 
 -- what an action took, at a plan and an answer that are known

@@ -25,7 +25,7 @@ pub record StandsAfter (stands : List ℕ → Type 0) (m : Meaning) (w : Writing
 abbrev pub HasFed : (List ℕ → Type 0) → Meaning → Writing → List ℕ → List ℕ → Result Progress Failed → Type 0
 HasFed stands m w seen piece (Ok fed) = StandsAfter stands m w fed.is_faulty (seen ++ take fed.bytes piece)
 HasFed stands m w seen piece (Err failed) =
-    (bytes : ℕ) × AppendsPrefix w.start w.held (m.text (seen ++ take bytes piece))
+    (bytes : ℕ) × AppendsPrefix w.start w.held (m.text (seen ++ take bytes piece)) × stands (seen ++ take bytes piece)
 
 -- of a piece of this size the action took bytes; where they have no fault it took all of it and may be fed more, and
 -- nothing is pending

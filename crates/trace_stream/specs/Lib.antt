@@ -2,8 +2,10 @@ pub mod BuffersState
 pub mod Debt
 pub mod Fed
 pub mod Fresh
+pub mod Owed
 pub mod Pumped
 pub mod Recent
 pub mod Served
 pub mod Taken
+pub mod Told
 pub mod Written

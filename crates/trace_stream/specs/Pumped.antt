@@ -28,7 +28,8 @@ PumpOutcome stands m limit p FaultFound =
     StandsAfter stands m p.writing true p.seen × (p.recent ≡ last_sixteen p.seen)
 PumpOutcome stands m limit p ReadFailed =
     StandsAfter stands m p.writing false p.seen × (p.extra ≡ []) × (p.writing.pending ≡ [])
-PumpOutcome stands m limit p WriteFailed = AppendsPrefix p.writing.start p.writing.held (m.text p.seen)
+PumpOutcome stands m limit p WriteFailed =
+    AppendsPrefix p.writing.start p.writing.held (m.text p.seen) × stands p.seen
 PumpOutcome stands m limit p OverLimit =
     StandsAfter stands m p.writing false p.seen
     × (length p.seen ≡ limit) × (0 < length p.extra) × (p.writing.pending ≡ [])

@@ -66,9 +66,21 @@ ServedBy m limit left WriteFailed bytes out recent =
 ServedBy m limit left OverLimit bytes out recent =
     (m.faulty (take limit bytes) → ⊥) × (limit < length bytes) × (out ≡ text_at_stop m (take limit bytes))
 
+-- Which bytes were fed: all within the limit, up to the one at which a fault became certain; or some of them, where a
+-- write failed.
+abbrev pub FedBy : (m : Meaning) (limit : ℕ) (left : Option (List ℕ)) (result : Outcome) (bytes out recent : List ℕ) →
+    ServedBy m limit left result bytes out recent → List ℕ → Type 0
+FedBy m limit left AtEnd bytes out recent served fed = fed ≡ bytes
+FedBy m limit left FaultFound bytes out recent served fed = fed ≡ served.0.seen
+FedBy m limit left ReadFailed bytes out recent served fed = fed ≡ bytes
+FedBy m limit left WriteFailed bytes out recent served fed = GrowsOnly fed (take limit bytes)
+FedBy m limit left OverLimit bytes out recent served fed = fed ≡ take limit bytes
+
 -- the bytes are those that the input lost, at most one past the limit, out is what the output gained, and
--- recent is what the ring keeps after the run; at the end of a run to the input's end nothing is left in the input
-pub record HasServed (m : Meaning) (limit : ℕ) (old new : Ends) (recent : List ℕ) (result : Outcome) : Type 0 where
+-- recent is what the ring keeps after the run; at the end of a run to the input's end nothing is left in the input; and
+-- this holds of the bytes that were fed
+pub record HasServed (there : List ℕ → Type 0) (m : Meaning) (limit : ℕ) (old new : Ends) (recent : List ℕ)
+    (result : Outcome) : Type 0 where
   pub bytes : List ℕ
   pub out : List ℕ
   pub lost : Consumes old.left new.left bytes
@@ -76,15 +88,6 @@ pub record HasServed (m : Meaning) (limit : ℕ) (old new : Ends) (recent : List
   pub at_most : length bytes ≤ limit + 1
   pub outcome : ServedBy m limit new.left result bytes out recent
   pub ended : result ≡ AtEnd → IsAtEnd new.left
-
--- a run that stopped was served so, and this holds of the bytes up to the one at which the fault became certain
-pub record HasStopped (there : List ℕ → Type 0) (m : Meaning) (limit : ℕ) (old new : Ends) (recent : List ℕ)
-    : Type 0 where
-  pub served : HasServed m limit old new recent FaultFound
-  pub holds : there served.outcome.0.seen
-
--- a run to the input's end was served so, and this holds of all its bytes
-pub record HasEnded (there : List ℕ → Type 0) (m : Meaning) (limit : ℕ) (old new : Ends) (recent : List ℕ)
-    : Type 0 where
-  pub served : HasServed m limit old new recent AtEnd
-  pub holds : there served.bytes
+  pub fed : List ℕ
+  pub feeds : FedBy m limit new.left result bytes out recent outcome fed
+  pub holds : there fed

@@ -1,6 +1,6 @@
 //! What is done to the bytes of a capture as they come.
 
-ghost use Rattle.std.specs.Prelude.{◌≡◌, ℕ, ◌+◌, ◌<◌, ◌≤◌, List, [], length, take, false};
+ghost use Rattle.std.specs.Prelude.{◌≡◌, ℕ, ◌+◌, ◌<◌, ◌≤◌, List, [], ◌++◌, length, take, false};
 ghost use Rattle.trace_io.specs.Bytes.{TakesSome};
 ghost use Rattle.trace_stream.specs.Debt.{Debt, Paid, with_debt, Pours};
 ghost use Rattle.trace_stream.specs.Served.{Meaning, IsLawful};
@@ -42,6 +42,8 @@ pub trait Action {
     ghost debt: { Self → Debt };
     // what it makes of the bytes of a capture
     ghost meaning: { Self.Plan → Meaning };
+    // what is noted of them as they come, beside what is written
+    ghost noted: { Self.Plan → List ℕ → List ℕ } = { λ plan seen. [] };
 
     /// Puts what it owes, as far as there is room, and answers whether it owed anything.
     fn pour(&mut self, outlet: &mut Outlet) -> bool
@@ -55,12 +57,15 @@ pub trait Action {
     /// Takes a front of the piece and puts its text into the outlet, or owes it. It goes no further than the byte that
     /// makes a fault certain. Where it stops before that is its own affair, and only its speed depends on it:
     /// the run calls it again with the rest, and what is written is the same.
-    fn feed(&mut self, piece: &[u8], outlet: &mut Outlet) -> Progress
+    ///
+    /// What is to be noted of the front it puts into `notes`, which is empty.
+    fn feed(&mut self, piece: &[u8], outlet: &mut Outlet, notes: &mut Outlet) -> Progress
         requires live { live self.old }
         requires paid { debt self.old ≡ Paid }
         requires some { 0 < length piece.now }
         requires room { length outlet.old + ACTION_ROOM ≤ OUTLET_ROOM }
         requires count { taken self.old + length piece.now ≤ GREATEST_CAPTURE }
+        requires silent { notes.old ≡ [] }
         ensures same { plan self.new ≡ plan self.old }
         ensures front { TakesSome piece.now result.bytes }
         ensures count { taken self.new ≡ taken self.old + result.bytes }
@@ -69,6 +74,8 @@ pub trait Action {
             let after = with_debt outlet.new (debt self.new) in
             let turn : Turn = record { seen = seen; front = front; before = outlet.old; after = after } in
             HasTaken (stands self.new) (meaning (plan self.old)) turn result.is_faulty }
+        ensures noted { (seen : List ℕ) → stands self.old seen →
+            noted (plan self.old) (seen ++ take result.bytes piece.now) ≡ noted (plan self.old) seen ++ notes.new }
         ensures live { result.is_faulty ≡ false → live self.new };
 
     /// Puts what is written after the text into the outlet, which is empty, or owes it.

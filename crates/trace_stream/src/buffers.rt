@@ -7,7 +7,8 @@ use crate::recent::{RECENT_ROOM, Recent};
 use std::alloc::{AllocError, Global};
 use std::marker::Model;
 
-/// All the memory of a run: a read buffer of 4,096 bytes, an outlet and the last bytes that were fed.
+/// All the memory of a run: a read buffer of 4,096 bytes, an outlet, the last bytes that were fed, and an outlet of
+/// notes, in which nothing is pending between calls.
 /// Contracts see the bytes that are still to be written, as `pending`, and those last bytes, as
 /// `recent`.
 #[derive(Drop)]
@@ -15,17 +16,18 @@ pub struct Buffers {
     pub(crate) input: Vec<u8>,
     pub(crate) outlet: Outlet,
     pub(crate) recent: Recent,
+    pub(crate) lines: Outlet,
 }
 
 impl Model for Buffers {
-    ghost use Rattle.std.specs.Prelude.{◌≡◌, length};
+    ghost use Rattle.std.specs.Prelude.{◌≡◌, [], length};
     ghost use Rattle.trace_stream.specs.BuffersState.{BuffersState};
 
     ghost Value = { BuffersState };
 
     ghost view = { λ b. record { pending = b.outlet; recent = b.recent } };
 
-    ghost invariant = { λ b. length b.input.items ≡ 4096 };
+    ghost invariant = { λ b. (length b.input.items ≡ 4096) × (b.lines ≡ []) };
 }
 
 impl Buffers {
@@ -36,10 +38,12 @@ impl Buffers {
         let input = vec![in alloc; 0; 4096]?;
         let outlet = Outlet::open(alloc)?;
         let recent = Recent::open(alloc)?;
+        let lines = Outlet::open(alloc)?;
         Ok(Buffers {
             input,
             outlet,
             recent,
+            lines,
         })
     }
 

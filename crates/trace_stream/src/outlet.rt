@@ -4,6 +4,7 @@ ghost use Rattle.std.specs.Prelude.{◌≡◌, ℕ, ◌+◌, ◌≤◌, List, []
 ghost use Rattle.std.specs.Io.KnownBytes.{Appends};
 ghost use Rattle.trace_io.specs.Bytes.{AppendsPrefix};
 ghost use Rattle.trace_io.specs.Causes.{HasCause};
+ghost use Rattle.trace_stream.specs.Told.{Notes};
 ghost use Rattle.trace_stream.specs.declared.outlet.TheConstants.{OUTLET_ROOM, TEXT_ROOM};
 
 use std::alloc::{AllocError, Global};
@@ -50,7 +51,7 @@ impl Model for Outlet {
 
 impl Outlet {
     /// An empty outlet with all its memory: no later call allocates.
-    pub(crate) fn open(alloc: Global) -> Result<Outlet, AllocError>
+    pub fn open(alloc: Global) -> Result<Outlet, AllocError>
         ensures { IfOk result (λ o. o ≡ []) }
     {
         let bytes = vec![in alloc; 0; OUTLET_ROOM]?;
@@ -121,5 +122,16 @@ impl Outlet {
         write_whole(sink, &self.bytes[..self.len])?;
         self.len = 0;
         Ok(())
+    }
+
+    /// Writes all that is pending as notes. Where the sink fails what it did not take is dropped, and nothing else
+    /// changes.
+    pub(crate) fn note<N: Sink>(&mut self, notes: &mut N)
+        ensures noted { Notes (N.held notes.old) (N.held notes.new) (N.faults notes.old) (N.faults notes.new) self.old }
+        ensures later { N.faults notes.old ≤ N.faults notes.new }
+        ensures emptied { self.new ≡ [] }
+    {
+        let _ = write_whole(notes, &self.bytes[..self.len]);
+        self.len = 0;
     }
 }

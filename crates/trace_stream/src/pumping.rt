@@ -9,6 +9,7 @@ ghost use Rattle.trace_stream.specs.Fresh.{IsFresh};
 ghost use Rattle.trace_stream.specs.BuffersState.{BuffersState};
 ghost use Rattle.trace_stream.specs.Pumped.{HasPumped, HasCauses, counts};
 ghost use Rattle.trace_stream.specs.Served.{Ends};
+ghost use Rattle.trace_stream.specs.Told.{HasTold, told};
 ghost use Rattle.trace_stream.specs.declared.limits.TheConstants.{GREATEST_CAPTURE};
 
 use crate::action::Action;
@@ -32,8 +33,9 @@ fn read_next<I: Source>(input: &mut I, buffer: &mut [u8], _outlet: &Outlet) -> R
 }
 
 /// Reads the input to its end, a fault or the limit, and writes the text of what was read. Where a fault
-/// was found its text may still be pending. The ring keeps the last of the bytes that were fed.
-pub fn pump<A: Action, I: Source, O: Sink>(
+/// was found its text may still be pending. The ring keeps the last of the bytes that were fed. What is to be noted of
+/// bytes is noted before more are read.
+pub fn pump<A: Action, I: Source, O: Sink, N: Sink>(
     action: &mut A,
     buffer: &mut [u8],
     outlet: &mut Outlet,
@@ -41,9 +43,13 @@ pub fn pump<A: Action, I: Source, O: Sink>(
     limit: u64,
     input: &mut I,
     output: &mut O,
+    lines: &mut Outlet,
+    notes: &mut N,
 ) -> Outcome
     requires fresh { let buffers : BuffersState = record { pending = outlet.old; recent = recent.old } in
-        IsFresh (A.live action.old) (A.stands action.old) (A.taken action.old) (A.debt action.old) buffers }
+        IsFresh (A.live action.old) (A.stands action.old) (A.taken action.old) (A.debt action.old)
+        (A.noted (A.plan action.old) []) buffers }
+    requires silent { lines.old ≡ [] }
     requires some { 0 < length buffer.old }
     requires small { limit ≤ GREATEST_CAPTURE }
     ensures same { A.plan action.new ≡ A.plan action.old }
@@ -51,7 +57,11 @@ pub fn pump<A: Action, I: Source, O: Sink>(
     ensures pumped { let before : Ends = record { left = I.left input.old; held = O.held output.old } in
         let after : Ends = record { left = I.left input.new; held = O.held output.new } in
         let buffers : BuffersState = record { pending = outlet.new; recent = recent.new } in
-        HasPumped (A.stands action.new) (A.meaning (A.plan action.old)) limit before after buffers result }
+        let first = told (N.held notes.old) (N.faults notes.old) in
+        let last = told (N.held notes.new) (N.faults notes.new) in
+        HasPumped (HasTold (A.stands action.new) (A.noted (A.plan action.old)) first last)
+        (A.meaning (A.plan action.old)) limit before after buffers result }
+    ensures silent { lines.new ≡ [] }
     ensures causes { let before = counts (I.empty_reads input.old) (I.faults input.old) (O.faults output.old) in
         let after = counts (I.empty_reads input.new) (I.faults input.new) (O.faults output.new) in
         HasCauses before after result }
@@ -69,7 +79,7 @@ pub fn pump<A: Action, I: Source, O: Sink>(
             return Outcome::AtEnd;
         }
         let taken = got.min(room as usize);
-        let fed = match feed_piece(action, outlet, output, &buffer[..taken]) {
+        let fed = match feed_piece(action, outlet, output, lines, notes, &buffer[..taken]) {
             Ok(fed) => fed,
             Err(_) => return Outcome::WriteFailed,
         };

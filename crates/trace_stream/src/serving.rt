@@ -8,7 +8,8 @@ ghost use Rattle.trace_io.specs.Causes.{HasCause};
 ghost use Rattle.trace_stream.specs.Debt.{Paid};
 ghost use Rattle.trace_stream.specs.Fresh.{IsFresh};
 ghost use Rattle.trace_stream.specs.Pumped.{HasCauses, counts};
-ghost use Rattle.trace_stream.specs.Served.{Ends, HasServed, HasStopped, HasEnded, text_at_stop};
+ghost use Rattle.trace_stream.specs.Served.{Ends, HasServed, text_at_stop};
+ghost use Rattle.trace_stream.specs.Told.{HasTold, told};
 ghost use Rattle.trace_stream.specs.declared.limits.TheConstants.{GREATEST_CAPTURE};
 
 use crate::action::Action;
@@ -79,29 +80,26 @@ fn finish_if_due<A: Action, O: Sink>(
 /// bytes, and writes what the action writes for it. It reads at most `limit` + 1 bytes, and not again once
 /// a read gave none.
 ///
-/// Before each read of the input all text so far is written. At a fault the recent bytes of the buffers
-/// are the last up to the one at which it became certain.
-pub fn serve<A: Action, I: Source, O: Sink>(
+/// Before each read of the input all text so far is written, and all is noted that is to be. At a fault the recent bytes
+/// of the buffers are the last up to the one at which it became certain. Notes that fail change nothing else.
+pub fn serve<A: Action, I: Source, O: Sink, N: Sink>(
     buffers: &mut Buffers,
     action: &mut A,
     limit: u64,
     input: &mut I,
     output: &mut O,
+    notes: &mut N,
 ) -> Outcome
-    requires fresh { IsFresh (A.live action.old) (A.stands action.old) (A.taken action.old) (A.debt action.old) buffers.old }
+    requires fresh { IsFresh (A.live action.old) (A.stands action.old) (A.taken action.old) (A.debt action.old)
+        (A.noted (A.plan action.old) []) buffers.old }
     requires small { limit ≤ GREATEST_CAPTURE }
     ensures served { let before : Ends = record { left = I.left input.old; held = O.held output.old } in
         let after : Ends = record { left = I.left input.new; held = O.held output.new } in
-        HasServed (A.meaning (A.plan action.old)) limit before after buffers.new.recent result }
+        let first = told (N.held notes.old) (N.faults notes.old) in
+        let last = told (N.held notes.new) (N.faults notes.new) in
+        HasServed (HasTold (A.stands action.new) (A.noted (A.plan action.old)) first last)
+        (A.meaning (A.plan action.old)) limit before after buffers.new.recent result }
     ensures same { A.plan action.new ≡ A.plan action.old }
-    ensures stopped { result ≡ Outcome.FaultFound →
-        let before : Ends = record { left = I.left input.old; held = O.held output.old } in
-        let after : Ends = record { left = I.left input.new; held = O.held output.new } in
-        HasStopped (A.stands action.new) (A.meaning (A.plan action.old)) limit before after buffers.new.recent }
-    ensures ended { result ≡ Outcome.AtEnd →
-        let before : Ends = record { left = I.left input.old; held = O.held output.old } in
-        let after : Ends = record { left = I.left input.new; held = O.held output.new } in
-        HasEnded (A.stands action.new) (A.meaning (A.plan action.old)) limit before after buffers.new.recent }
     ensures written { result ≢ Outcome.WriteFailed → buffers.new.pending ≡ [] }
     ensures causes { let before = counts (I.empty_reads input.old) (I.faults input.old) (O.faults output.old) in
         let after = counts (I.empty_reads input.new) (I.faults input.new) (O.faults output.new) in
@@ -111,8 +109,11 @@ pub fn serve<A: Action, I: Source, O: Sink>(
         input: buffer,
         outlet,
         recent,
+        lines,
     } = buffers;
-    match pump(action, buffer, outlet, recent, limit, input, output) {
+    match pump(
+        action, buffer, outlet, recent, limit, input, output, lines, notes,
+    ) {
         Outcome::AtEnd => match finish(action, outlet, output) {
             Ok(()) => Outcome::AtEnd,
             Err(_) => Outcome::WriteFailed,

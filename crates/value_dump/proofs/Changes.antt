@@ -1,7 +1,7 @@
 -- The lines of the signals that changed.
 use Rattle.std.proofs.Common.{◌≡◌, ◌≢◌, ℕ, zero, suc, ◌+◌, ◌*◌, ◌<◌, ◌≤◌, List, [], ◌∷◌, ◌++◌, length, refl, ◌∙◌, ap}
 use Rattle.std.proofs.Common.{arith, length-append, inl, inr, Option, None, Some, Bool, true, false, cond, set}
-use Rattle.std.proofs.Common.{replicate}
+use Rattle.std.proofs.Common.{replicate, append-nil, ◌-◌}
 use Rattle.std.specs.Prelude.{◌==◌}
 use Rattle.std.proofs.lemmas.List.{get_or-set_same, get_or-set_other}
 use Rattle.std.proofs.lemmas.Bool.{cases_eq}
@@ -99,6 +99,28 @@ same_value number None = refl
 same_value number (Some value) =
     ap (λ (t : Bool). cond t [] (value_line number value))
     (let e : (value == value) ≡ true = grind (arith, nat_tests) in e)
+
+-- signals that did not change have no lines
+quiet_changes : (count first : ℕ) (old new : Values) →
+    ((n : ℕ) → first ≤ n → n < count + first → new n ≡ old n) →
+    changes_of (count + first) old new ≡ changes_of first old new
+quiet_changes zero first old new h =
+    ap (λ (n : ℕ). changes_of n old new) (let e : zero + first ≡ first = omega arith in e)
+quiet_changes (suc count) first old new h =
+    let last : ℕ = count + first in
+    let e : suc count + first ≡ suc last = omega arith in
+    ap (λ (n : ℕ). changes_of n old new) e
+    ∙ ap (λ (v : Option ℕ). changes_of last old new ++ change last (old last) v) (h last (omega arith) (omega arith))
+    ∙ ap (λ (l : List ℕ). changes_of last old new ++ l) (same_value last (old last))
+    ∙ append-nil (changes_of last old new)
+    ∙ quiet_changes count first old new (λ n a b. h n a (omega (arith, b)))
+
+pub quiet_between : (first next : ℕ) (old new : Values) → first ≤ next →
+    ((n : ℕ) → first ≤ n → n < next → new n ≡ old n) → changes_of next old new ≡ changes_of first old new
+quiet_between first next old new le h =
+    let e : next ≡ next - first + first = omega (arith, le) in
+    ap (λ (n : ℕ). changes_of n old new) e
+    ∙ quiet_changes (next - first) first old new (λ n a b. h n a (omega (arith, b, le)))
 
 pub no_changes : (count : ℕ) (values : Values) → changes_of count values values ≡ []
 no_changes zero values = refl

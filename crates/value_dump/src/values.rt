@@ -2,6 +2,7 @@
 
 ghost use Rattle.std.specs.Prelude.{◌≡◌, ◌+◌, ◌*◌, ◌≤◌, ◌<◌, ◌++◌, ◌∷◌, [], ℕ, None, Some, length, is_some};
 ghost use Rattle.std.specs.Prelude.{◌||◌, List};
+ghost use Rattle.std.specs.Int.{bit_at};
 ghost use Rattle.value_dump.specs.Dump.{change, changes, known};
 ghost use Rattle.value_dump.specs.Signals.{last_told};
 ghost use Rattle.value_dump.specs.Lines.{are_some, line_of, lines_with, timed};
@@ -27,9 +28,12 @@ const ALL_ROOM: usize = LINE_ROOM * SIGNALS;
 pub struct SignalValues {
     latest: [Option<u32>; SIGNALS],
     stamped: [Option<u32>; SIGNALS],
+    /// A bit for each signal that was told since then: no other one changed.
+    told: u64,
     /// The lines of the signals that changed have at most this many bytes.
     owed: usize,
     ghost few: { owed ≤ ALL_ROOM },
+    ghost quiet: { (number : ℕ) → bit_at told number ≡ 0 → known latest number ≡ known stamped number },
     ghost covered: { length (changes (known stamped) (known latest)) ≤ owed },
 }
 
@@ -55,6 +59,7 @@ impl SignalValues {
         SignalValues {
             latest: [None; SIGNALS],
             stamped: [None; SIGNALS],
+            told: 0,
             owed: 0,
         }
     }
@@ -84,6 +89,7 @@ impl SignalValues {
         ensures owed { owed_by self.new ≤ owed_by self.old + LINE_ROOM }
     {
         self.latest[number] = Some(value);
+        self.told |= 1 << number;
         self.owed = (self.owed + LINE_ROOM).min(ALL_ROOM);
     }
 
@@ -94,7 +100,23 @@ impl SignalValues {
         ensures owed { owed_by self.new ≡ 0 }
     {
         self.stamped = self.latest;
+        self.told = 0;
         self.owed = 0;
+    }
+
+    /// The first signal from this one on that was told since the last local timestamp, or how many signals there are.
+    /// Those passed over did not change.
+    fn next_told(&self, first: usize) -> usize
+        requires { first ≤ SIGNALS }
+        ensures within { (first ≤ result) × (result ≤ SIGNALS) }
+        ensures quiet { (number : ℕ) → first ≤ number → number < result →
+            latest_of self.now number ≡ stamped_of self.now number }
+    {
+        let rest = self.told >> first;
+        if rest == 0 {
+            return SIGNALS;
+        }
+        (first + rest.trailing_zeros() as usize).min(SIGNALS)
     }
 
     /// Puts the line of this signal if it changed, and before it that of the time if it was not put; answers whether
@@ -125,8 +147,11 @@ impl SignalValues {
         ensures bound { length outlet.new ≤ length outlet.old + (TIME_ROOM + owed_by self.now) }
     {
         let mut is_timed = false;
-        for number in 0..SIGNALS {
+        let mut number = self.next_told(0);
+        while number < SIGNALS {
             is_timed = self.put_change(outlet, number, time, is_timed);
+            let after = self.next_told(number + 1);
+            number = after;
         }
     }
 }

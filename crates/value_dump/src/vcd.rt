@@ -101,7 +101,7 @@ impl Action for Vcd {
 
     /// Takes a whole frame, or bytes up to a synchronisation or a fault, or packets, and puts the lines of what they
     /// tell; before the first byte the header.
-    fn feed(&mut self, piece: &[u8], outlet: &mut Outlet) -> Progress {
+    fn feed(&mut self, piece: &[u8], outlet: &mut Outlet, _notes: &mut Outlet) -> Progress {
         let at = self.engine.next();
         self.begin(outlet);
         let fed = self.engine.take(at, piece, &mut self.source, outlet);

@@ -8,7 +8,7 @@ use std::alloc::Global;
 use std::cell::Cell;
 use std::process::Abort;
 use std::test::Fail;
-use trace_io::{Failed, MemorySink, MemorySource, Sink, Source};
+use trace_io::{Failed, MemorySink, MemorySource, Sink, Source, SureSink};
 use trace_stream::{Buffers, OUTLET_ROOM, Outcome, serve};
 
 /// What was seen so far of a run whose action writes each byte twice.
@@ -115,7 +115,14 @@ fn check_watched(
         inner: MemorySink::new(&mut room, &[5000, 1], &[]),
         watch,
     };
-    let ended = serve(&mut buffers, &mut action, 1 << 24, &mut input, &mut output);
+    let ended = serve(
+        &mut buffers,
+        &mut action,
+        1 << 24,
+        &mut input,
+        &mut output,
+        &mut SureSink::new(),
+    );
     same(rt, &"ended", &ended, &Outcome::AtEnd);
     same(
         rt,

@@ -1,5 +1,5 @@
 use Rattle.std.proofs.Common.{sym, subst}
-use Rattle.capture_words.specs.declared.job.Task.TheVariants.{Check, Show, Vcd}
+use Rattle.capture_words.specs.declared.job.Task.TheVariants.{Check, Show, Text, Vcd}
 use Rattle.capture_run.specs.Actions.{HasDone}
 use Rattle.capture_run.specs.Run.{Streams, streams}
 use Rattle.capture_run.specs.declared.status.Status.{Status}
@@ -16,6 +16,11 @@ pub returns-in-Check-clause-ran : goal.returns-in-Check-clause-ran
 returns-in-Check-clause-ran g c =
     let t = c.in-Check in
     same_task c.args.job.task (Check t.plan t.recover t.kinds) c.args.job.limit _ _ _ t.is c.run_check.ensures.ran
+
+pub returns-in-Text-clause-ran : goal.returns-in-Text-clause-ran
+returns-in-Text-clause-ran g c =
+    let t = c.in-Text in
+    same_task c.args.job.task (Text t.plan t.port t.recover) c.args.job.limit _ _ _ t.is c.run_text.ensures.ran
 
 pub returns-in-Vcd-clause-ran : goal.returns-in-Vcd-clause-ran
 returns-in-Vcd-clause-ran g c =

@@ -10,6 +10,6 @@ returns-in-Err-clause-ran g c = λ p opened.
     let held = g.O.Sink.held c.args.output.now in
     let old : Streams = streams left held (g.N.Sink.held c.args.notes.now) (g.N.Sink.faults c.args.notes.now) in
     let new = c.note_no_memory.new.notes in
-    let task = task_of (g.A.Action.meaning p) (g.A.CommandAction.notes p) in
+    let task = task_of (g.A.Action.meaning p) (g.A.Action.noted p) (g.A.CommandAction.notes p) in
     subst (HasRun task c.args.limit old _) (sym c.note_no_memory.ensures.status)
     (run_unopened c.args.limit old (g.N.Sink.held new) (g.N.Sink.faults new) c.note_no_memory.ensures.noted task)

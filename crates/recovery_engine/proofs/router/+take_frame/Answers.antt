@@ -1,10 +1,12 @@
 use Rattle.std.proofs.Common.{◌≡◌, ◌<◌, ◌-◌, [], ◌∷◌, take, drop, length, map, sym, ◌∙◌, ap, subst, refl, arith}
-use Rattle.std.proofs.Common.{List}
+use Rattle.std.proofs.Common.{List, ℕ, ◌≤◌}
 use Rattle.std.proofs.lemmas.Bool.Decides.{nat_tests}
-use Rattle.std.proofs.lemmas.List.{length-drop, take_all}
+use Rattle.std.proofs.lemmas.List.{length-drop, length-take-le, take_all}
 use Rattle.trace_values.specs.declared.cell.Cell.{Cell}
-use Rattle.source_events.specs.Runs.{runs_of}
+use Rattle.source_events.specs.Runs.{id_of, runs_of}
+use Rattle.source_merge.specs.Run.{cells_of}
 use Rattle.source_merge.proofs.Framing.{cut_at}
+use Rattle.source_merge.proofs.Taking.{id_is}
 use Rattle.recovery_report.specs.Report.{Run}
 use Rattle.recovery_engine.specs.Taking.{Takes}
 use Rattle.recovery_engine.proofs.Parts.{takes_none, takes_then}
@@ -39,4 +41,54 @@ returns-clause-takes g t c =
       c.take_run.new.slots,
       (c.take_run.new.out, c.take_run.new.to),
     ) (c.take_frame.new.slots, (c.take_frame.new.out, c.take_frame.new.to))
-    (Run (take n cells) ∷ []) (map Run (runs_of more)) c.take_run.ensures.takes c.take_frame.ensures.takes)
+    (Run (take n cells) ∷ []) (map Run (runs_of more))
+    (subst (λ (l : List Cell). Takes g.V.Hearer.gets (Run l ∷ []) (c.args.slots.now, (c.args.out.now, c.args.to.now))
+    (c.take_run.new.slots, (c.take_run.new.out, c.take_run.new.to))) c.of.ensures c.take_run.ensures.takes)
+    c.take_frame.ensures.takes)
+
+pub take_run-requires : goal.take_run-requires
+take_run-requires g t c =
+    let cells = c.args.cells.now in
+    let n = c.run_length-n.result in
+    let within = c.run_length-n.ensures.within in
+    let some = c.run_length-n.ensures.some in
+    let size : length (cells_of c.of.result) ≡ n = ap length c.of.ensures ∙ length-take-le n cells within in
+    let few = c.requires.size in
+    record {
+      own =
+          record {
+            own =
+                ap id_of c.of.ensures ∙ sym (id_is (take n cells) c.index-run-0.result
+                (let a = length-take-le n cells within in omega (arith, a, some)));
+            some = omega (arith, size, some);
+            few = omega (arith, size, within, few);
+          };
+      few = (let a = c.requires.few in omega (arith, size, within, a));
+      room = (let a = c.requires.room in omega (arith, size, within, a));
+    }
+
+-- what is left of the cells
+left_size : (cells : List Cell) (n : ℕ) → n ≤ length cells →
+    length (take (length cells - n) (drop n cells)) ≡ length cells - n
+left_size cells n within =
+    let d = length-drop n cells in length-take-le (length cells - n) (drop n cells) (omega (arith, d))
+
+pub returns-clause-few : goal.returns-clause-few
+returns-clause-few g t c =
+    let cells = c.args.cells.now in
+    let n = c.run_length-n.result in
+    let within = c.run_length-n.ensures.within in
+    let size : length (cells_of c.of.result) ≡ n = ap length c.of.ensures ∙ length-take-le n cells within in
+    let left = left_size cells n within in
+    let a = c.take_frame.ensures.few in
+    let b = c.take_run.ensures.few in omega (arith, size, within, a, b, left)
+
+pub returns-clause-room : goal.returns-clause-room
+returns-clause-room g t c =
+    let cells = c.args.cells.now in
+    let n = c.run_length-n.result in
+    let within = c.run_length-n.ensures.within in
+    let size : length (cells_of c.of.result) ≡ n = ap length c.of.ensures ∙ length-take-le n cells within in
+    let left = left_size cells n within in
+    let a = c.take_frame.ensures.room in
+    let b = c.take_run.ensures.room in omega (arith, size, within, a, b, left)

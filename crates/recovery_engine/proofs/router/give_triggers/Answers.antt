@@ -1,31 +1,31 @@
-use Rattle.std.proofs.Common.{◌∷◌, [], take, subst, refl, arith}
+use Rattle.std.proofs.Common.{◌∷◌, [], take, subst, arith}
 use Rattle.source_merge.proofs.Triggers.{told_by, trigger, one_more}
 use Rattle.recovery_engine.proofs.router.give_triggers.Goals as goal
 
 pub loop-index-init : goal.loop-index-init
 loop-index-init g c = record { given = g.met.V.Hearer.gets_none (c.args.out.now, c.args.to.now); space = omega arith }
 
-pub hear-requires : goal.hear-requires
-hear-requires g c = record {
-  fits = refl;
+pub hear_trigger-requires : goal.hear_trigger-requires
+hear_trigger-requires g c = record {
   room =
-      (let a = c.loop-index.invariant.space in let b = c.requires.room in
-      let h = c.loop-index-test.true in omega (arith, a, b, h));
+      (let a = c.loop-index.invariant.space in let b = c.requires.room in let n = c.len-index-end.ensures in
+      let h = c.loop-index-test.true in omega (arith, a, b, h, n));
 }
 
 pub loop-index-preserved : goal.loop-index-preserved
 loop-index-preserved g c =
     let i = c.loop-index.invariant in
     let x = c.args.id in
-    let run = c.args.cells.now in
+    let run = g.R.Run.cells c.args.run.now in
     let k = c.loop-index.index in
-    let cell = c.index-cells-index.result in
+    let cell = c.cell-cell.result in
     record {
       given =
-          subst (λ l. g.V.Hearer.gets (c.args.out.now, c.args.to.now) l (c.hear.new.self, c.hear.new.to))
-          (one_more x run k cell c.loop-index-test.true c.index-cells-index.is)
+          subst (λ l. g.V.Hearer.gets (c.args.out.now, c.args.to.now) l (c.hear_trigger.new.self, c.hear_trigger.new.to))
+          (one_more x run k cell
+          (let n = c.len-index-end.ensures in let h = c.loop-index-test.true in omega (arith, n, h)) c.cell-cell.ensures)
           (g.met.V.Hearer.gets_more (c.args.out.now, c.args.to.now) (c.loop-index.out, c.loop-index.to)
-          (c.hear.new.self, c.hear.new.to) (told_by x (take k run))
-          (trigger x cell ∷ []) i.given c.hear.ensures.gets);
-      space = (let a = i.space in let h = c.hear.ensures.room in omega (arith, a, h));
+          (c.hear_trigger.new.self, c.hear_trigger.new.to) (told_by x (take k run))
+          (trigger x cell ∷ []) i.given c.hear_trigger.ensures.gets);
+      space = (let a = i.space in let h = c.hear_trigger.ensures.room in omega (arith, a, h));
     }

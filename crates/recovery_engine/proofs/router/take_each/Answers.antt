@@ -10,7 +10,7 @@ use Rattle.recovery_engine.proofs.router.take_each.Goals as goal
 pub returns-then-not-take_own-clause-takes : goal.returns-then-not-take_own-clause-takes
 returns-then-not-take_own-clause-takes g c =
     let x = c.args.id in
-    let cells = c.args.cells.now in
+    let cells = g.R.Run.cells c.args.run.now in
     let said = raw_each x cells in
     let other = c.take_own.ensures.other c.if-not-take_own.true in (
       said,
@@ -26,7 +26,7 @@ returns-else-not-take_own-clause-takes g c =
     let own = c.take_own.ensures.own c.if-not-take_own.false in (
       told (Some c.args.id) (lifted own.takes.said),
       own.takes.received,
-      λ plan parts k. grown_each g.V.Hearer.gets g.V.Hearer.room plan parts c.args.cells.now c.args.id
+      λ plan parts k. grown_each g.V.Hearer.gets g.V.Hearer.room plan parts (g.R.Run.cells c.args.run.now) c.args.id
           (c.args.slots.now, (c.args.out.now, c.args.to.now))
           (c.take_own.new.slots, (c.take_own.new.out, c.take_own.new.to)) c.requires.own k own,
     )

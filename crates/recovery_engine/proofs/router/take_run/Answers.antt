@@ -1,31 +1,23 @@
-use Rattle.std.proofs.Common.{◌≡◌, [], ◌∷◌, sym, ◌∙◌, subst, length, List, get_or, Some}
-use Rattle.std.proofs.Common.{arith, refl, ◌<◌}
-use Rattle.trace_values.specs.declared.cell.Cell.{Cell}
+use Rattle.std.proofs.Common.{[], ◌∷◌, sym, ◌∙◌, subst, Some}
 use Rattle.source_events.specs.Merge.{told}
 use Rattle.source_events.specs.Report.{raw_events}
-use Rattle.source_events.specs.Runs.{id_of}
 use Rattle.recovery_report.specs.Report.{Run}
 use Rattle.recovery_engine.specs.Taking.{Grown}
 use Rattle.recovery_engine.proofs.Parts.{grown_none, grown_raw, takes_own}
 use Rattle.recovery_engine.proofs.router.take_run.Goals as goal
 
--- the first cell's ID is the run's
-first_id : (run : List Cell) (d : Cell) → 0 < length run → id_of run ≡ (get_or run 0 d).id
-first_id [] d h = absurd (omega arith)
-first_id (c ∷ run) d h = refl
-
 pub returns-in_default-clause-takes : goal.returns-in_default-clause-takes
 returns-in_default-clause-takes g c = (
   [],
   g.met.V.Hearer.gets_none (c.args.out.now, c.args.to.now),
-  λ plan parts k. grown_none plan parts c.args.cells.now c.args.slots.now
-      (first_id c.args.cells.now _ c.requires.some ∙ c.in_default.is) k,
+  λ plan parts k. grown_none plan parts (g.R.Run.cells c.args.run.now) c.args.slots.now
+      (c.requires.own.own ∙ c.in_default.is) k,
 )
 
 pub returns-then-not-take_own-clause-takes : goal.returns-then-not-take_own-clause-takes
 returns-then-not-take_own-clause-takes g c =
     let x = c.in-Some.id in
-    let run = c.args.cells.now in
+    let run = (g.R.Run.cells c.args.run.now) in
     let other = c.take_own.ensures.other c.if-not-take_own.true in (
       told (Some x) (raw_events x run),
       subst (λ o. g.V.Hearer.gets (o, c.args.to.now) (told (Some x) (raw_events x run))
@@ -33,12 +25,12 @@ returns-then-not-take_own-clause-takes g c =
           (subst (λ t. g.V.Hearer.gets (c.take_own.new.out, t) (told (Some x) (raw_events x run))
           (c.give_raw.new.out, c.give_raw.new.to)) other.2 c.give_raw.ensures.given),
       λ plan parts k. subst (λ l. Grown plan parts (Run run ∷ []) l (told (Some x) (raw_events x run))) (sym other.0)
-          (grown_raw plan parts run x c.args.slots.now (first_id run _ c.requires.some ∙ c.in-Some.is) other.3 k),
+          (grown_raw plan parts run x c.args.slots.now (c.requires.own.own ∙ c.in-Some.is) other.3 k),
     )
 
 pub returns-else-not-take_own-clause-takes : goal.returns-else-not-take_own-clause-takes
 returns-else-not-take_own-clause-takes g c =
-    takes_own g.V.Hearer.gets g.V.Hearer.room c.args.cells.now c.in-Some.id
+    takes_own g.V.Hearer.gets g.V.Hearer.room (g.R.Run.cells c.args.run.now) c.in-Some.id
     (c.args.slots.now, (c.args.out.now, c.args.to.now))
     (c.take_own.new.slots, (c.take_own.new.out, c.take_own.new.to))
-    (first_id c.args.cells.now _ c.requires.some ∙ c.in-Some.is) (c.take_own.ensures.own c.if-not-take_own.false)
+    (c.requires.own.own ∙ c.in-Some.is) (c.take_own.ensures.own c.if-not-take_own.false)

@@ -1,5 +1,4 @@
-use Rattle.frame_grammar.specs.Port.{Full, Spells, why, start, rule}
-use Rattle.port_sync.specs.Hunting.{pattern}
+use Rattle.resync_grammars.specs.Names.{Full, Spells, why, start, rule, pattern}
 use Rattle.resync_grammars.proofs.Syncing.{port_syncs, begins_only}
 use Rattle.resync_grammars.proofs.port_laws.port_pattern_law.Goals as goal
 

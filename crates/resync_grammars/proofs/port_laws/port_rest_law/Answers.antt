@@ -1,5 +1,4 @@
-use Rattle.frame_grammar.specs.Port.{Full, Spells, why, start, rule}
-use Rattle.port_sync.specs.Hunting.{pattern}
+use Rattle.resync_grammars.specs.Names.{Full, Spells, why, start, rule, pattern}
 use Rattle.resync_rules.proofs.Words.{in_words}
 use Rattle.resync_grammars.proofs.Syncing.{port_syncs}
 use Rattle.resync_grammars.proofs.Modes.{is_rest, cells_rest}

@@ -2,10 +2,7 @@ use Rattle.std.proofs.Common.{◌≡◌, List, refl, sym, ◌∙◌, ap, Bool, t
 use Rattle.std.specs.Prelude.{◌||◌, drop, take, is_none}
 use Rattle.std.specs.List.{list_any}
 use Rattle.std.proofs.lemmas.List.Folds.{list_any-append}
-use Rattle.trace_values.specs.declared.cell.Cell.{Cell}
-use Rattle.trace_values.specs.Placed.{Placed, placed}
-use Rattle.trace_values.specs.declared.reading_modes.FramesMode.TheVariants.{Hunt}
-use Rattle.deformatter.specs.PortReading.{port_reading, cells_of}
+use Rattle.resync_grammars.specs.Names.{Cell, Placed, placed, Hunt, port_reading, cells_of}
 use Rattle.resync_grammars.specs.PortRows.{two_frames, whole}
 use Rattle.resync_grammars.proofs.port_rows.ids_are_not_known_at_once.Goals as goal
 

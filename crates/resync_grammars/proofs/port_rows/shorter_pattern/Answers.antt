@@ -1,8 +1,7 @@
 use Rattle.std.proofs.Common.{◌≡◌, List, [], ◌∷◌, ◌++◌, refl}
-use Rattle.trace_values.specs.Placed.{Place, Placed, placed}
-use Rattle.trace_values.specs.Reading.{Splits, reading}
+use Rattle.resync_grammars.specs.Names.{Place, Placed, placed, Splits, reading, PortItem, Full, Spells, why, start}
+use Rattle.resync_grammars.specs.Names.{rule}
 use Rattle.trace_values.proofs.Readings as readings
-use Rattle.frame_grammar.specs.Port.{PortItem, Full, Spells, why, start, rule}
 use Rattle.frame_grammar.proofs.Deciding.{port_decided}
 use Rattle.resync_grammars.proofs.port_rows.shorter_pattern.Goals as goal
 

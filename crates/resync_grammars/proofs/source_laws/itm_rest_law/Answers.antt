@@ -1,8 +1,4 @@
-use Rattle.trace_values.specs.Placed.{units_of}
-use Rattle.trace_values.specs.Grammar.{InUnits}
-use Rattle.trace_values.specs.Walk.{by_unit}
-use Rattle.itm_grammar.specs.declared.packet.ItmPacket.TheVariants.{Sync}
-use Rattle.itm_grammar.specs.declared.partial.Partial.TheVariants.{Header}
+use Rattle.resync_grammars.specs.Names.{units_of, InUnits, by_unit, Sync, Header}
 use Rattle.itm_grammar.specs.Spelling.{Spells, why}
 use Rattle.itm_grammar.specs.Rule.{rule}
 use Rattle.itm_codec.specs.Reading.{pattern}

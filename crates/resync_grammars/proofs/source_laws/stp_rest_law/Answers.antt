@@ -1,8 +1,4 @@
-use Rattle.trace_values.specs.Placed.{units_of}
-use Rattle.trace_values.specs.Grammar.{InUnits}
-use Rattle.trace_values.specs.Walk.{by_unit}
-use Rattle.stp_grammar.specs.declared.packet.StpPacket.TheVariants.{Async}
-use Rattle.stp_grammar.specs.declared.partial.Partial.TheVariants.{Start}
+use Rattle.resync_grammars.specs.Names.{units_of, InUnits, by_unit, Async, Start}
 use Rattle.stp_grammar.specs.Spelling.{Spells, why}
 use Rattle.stp_grammar.specs.Rule.{rule}
 use Rattle.stp_codec.specs.Reading.{pattern}

@@ -1,11 +1,6 @@
 use Rattle.std.proofs.Common.{◌≡◌, ◌-◌, List, [], ◌∷◌, length, length-append, refl, ◌∙◌, ap, inl, inr, arith, true, false}
 use Rattle.std.specs.Prelude.{codes}
-use Rattle.trace_values.specs.Hex.{hex}
-use Rattle.trace_values.specs.Placed.{Placed, placed}
-use Rattle.trace_values.specs.Stream.{Stream}
-use Rattle.itm_grammar.specs.declared.packet.ItmPacket.{ItmPacket}
-use Rattle.itm_codec.specs.Reading.{packets_in}
-use Rattle.resync_rules.specs.Fronts.{Locks}
+use Rattle.resync_grammars.specs.Names.{hex, Placed, placed, Stream, ItmPacket, packets_in, Locks}
 use Rattle.resync_grammars.specs.Itm.{hunting}
 use Rattle.resync_grammars.proofs.source_rows.pattern_is_not_skipped.Goals as goal
 

@@ -2,13 +2,8 @@ use Rattle.std.proofs.Common.{◌≡◌, List, refl, sym, ◌∙◌, ap, Bool, t
 use Rattle.std.specs.Prelude.{◌||◌, drop, take}
 use Rattle.std.specs.List.{list_any}
 use Rattle.std.proofs.lemmas.List.Folds.{list_any-append}
-use Rattle.trace_values.specs.Hex.{hex}
-use Rattle.trace_values.specs.Placed.{Place, Placed, placed}
-use Rattle.trace_values.specs.Stream.{Said}
-use Rattle.stp_grammar.specs.declared.packet.Order.TheVariants.{Msn}
-use Rattle.stp_grammar.specs.declared.item.StpItem.{StpItem}
+use Rattle.resync_grammars.specs.Names.{hex, Place, Placed, placed, Said, Msn, StpItem, items_in}
 use Rattle.stp_grammar.specs.Attribution.{version_of, master_of, channel_of, last_word_of}
-use Rattle.stp_codec.specs.Reading.{items_in}
 use Rattle.resync_grammars.specs.SourceRows.{two_versions, stp_whole, has_no_master}
 use Rattle.resync_grammars.proofs.source_rows.places_are_not_known_at_once.Goals as goal
 

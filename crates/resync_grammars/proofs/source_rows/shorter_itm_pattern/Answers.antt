@@ -1,15 +1,8 @@
 use Rattle.std.proofs.Common.{◌≡◌, List, [], ◌∷◌, ◌++◌, refl, sym, ap, ◌∙◌}
 use Rattle.std.specs.Prelude.{codes}
-use Rattle.trace_values.specs.Grammar.{InUnits}
-use Rattle.trace_values.specs.Hex.{hex}
-use Rattle.trace_values.specs.Placed.{Place, Placed, placed, units_of}
-use Rattle.trace_values.specs.Reading.{progress}
-use Rattle.trace_values.specs.Walk.{by_unit}
+use Rattle.resync_grammars.specs.Names.{InUnits, hex, Place, Placed, placed, units_of, progress, by_unit, Four}
+use Rattle.resync_grammars.specs.Names.{ItmPacket, Sync, Software, Header}
 use Rattle.trace_values.proofs.Placing.{on_units}
-use Rattle.itm_grammar.specs.declared.packet.Size.TheVariants.{Four}
-use Rattle.itm_grammar.specs.declared.packet.ItmPacket.{ItmPacket}
-use Rattle.itm_grammar.specs.declared.packet.ItmPacket.TheVariants.{Sync, Software}
-use Rattle.itm_grammar.specs.declared.partial.Partial.TheVariants.{Header}
 use Rattle.itm_grammar.specs.Spelling.{Spells, why}
 use Rattle.itm_grammar.specs.Rule.{rule}
 use Rattle.itm_grammar.proofs.Deciding.{decided}

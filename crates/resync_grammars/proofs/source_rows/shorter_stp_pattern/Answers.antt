@@ -1,20 +1,11 @@
 use Rattle.std.proofs.Common.{◌≡◌, ℕ, zero, suc, ◌+◌, ◌≤◌, List, [], ◌∷◌, ◌++◌, length, length-append, replicate, refl, sym, ap, subst, arith, append-nil, ◌∙◌, false}
 use Rattle.std.proofs.lemmas.List.{length-replicate}
 use Rattle.std.specs.Prelude.{codes}
-use Rattle.trace_values.specs.Grammar.{InUnits}
-use Rattle.trace_values.specs.Nibbles.{nibbles_of}
-use Rattle.trace_values.specs.Hex.{hex}
-use Rattle.trace_values.specs.Placed.{Place, Placed, placed, units_of}
-use Rattle.trace_values.specs.Reading.{Splits, progress, reading}
+use Rattle.resync_grammars.specs.Names.{InUnits, nibbles_of, hex, Place, Placed, placed, units_of, Splits, progress}
+use Rattle.resync_grammars.specs.Names.{reading, by_unit, Msn, SixtyFour, StpPacket, Async, Plain, Start}
 use Rattle.trace_values.proofs.Readings as readings
-use Rattle.trace_values.specs.Walk.{by_unit}
 use Rattle.trace_values.proofs.Placing.{on_units}
-use Rattle.stp_grammar.specs.declared.packet.Order.TheVariants.{Msn}
-use Rattle.stp_grammar.specs.declared.packet.Width.TheVariants.{SixtyFour}
 use Rattle.stp_grammar.specs.declared.packet.Row.TheVariants.{Datum}
-use Rattle.stp_grammar.specs.declared.packet.StpPacket.{StpPacket}
-use Rattle.stp_grammar.specs.declared.packet.StpPacket.TheVariants.{Async, Plain}
-use Rattle.stp_grammar.specs.declared.partial.Partial.TheVariants.{Start}
 use Rattle.stp_grammar.specs.Spelling.{Spells, why}
 use Rattle.stp_grammar.specs.Rule.{rule}
 use Rattle.stp_grammar.proofs.Deciding.{decided}

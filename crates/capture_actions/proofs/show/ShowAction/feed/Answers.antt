@@ -1,4 +1,4 @@
-use Rattle.std.proofs.Common.{◌≡◌, ◌≤◌, ◌∙◌, ◌+◌, ◌-◌, ℕ, Bool, true, ap, drop, length, subst, arith, take, rules}
+use Rattle.std.proofs.Common.{◌≡◌, ◌≤◌, ◌∙◌, ◌+◌, ◌-◌, ℕ, Bool, true, ap, drop, length, subst, sym, arith, take, rules}
 use Rattle.std.proofs.lemmas.List.{length-drop, length-take-le}
 use Rattle.capture_actions.specs.Feeding.{HasFed}
 use Rattle.capture_actions.specs.Show.{taken_by}
@@ -37,5 +37,6 @@ returns-then-not-has_more c =
       front = record { some = omega (arith, front.some); at_most_all = all };
       count = fed.count ∙ ap (λ (n : ℕ). taken_by c.args.self.now + n) (length-take-le (done + c.take-taken.result.bytes) piece all);
       fed = fed.fed;
+      noted = λ seen stands. sym c.requires.silent;
       live = fed.live;
     }

@@ -3,9 +3,9 @@ use Rattle.std.specs.Prelude.{◌==◌}
 use Rattle.std.proofs.lemmas.Bool.Decides.{nat_tests}
 use Rattle.buffer_ring.specs.Image.{ordered}
 use Rattle.capture_actions.specs.Names.{owing, with_debt}
-use Rattle.capture_actions.specs.Owed.{last_of}
+use Rattle.trace_stream.specs.Owed.{last_of}
 use Rattle.capture_actions.specs.Unring.{ordered_of}
-use Rattle.capture_actions.proofs.Owing.{with_last}
+use Rattle.trace_stream.proofs.Owing.{with_last}
 use Rattle.capture_actions.proofs.unring.UnringAction.finish.Goals as goal
 
 same_count : (a b : ℕ) → (a == b) ≡ true → a ≡ b

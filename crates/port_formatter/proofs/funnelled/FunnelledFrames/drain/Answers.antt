@@ -1,6 +1,5 @@
 use Rattle.std.proofs.Common.{ap, arith}
-use Rattle.trace_funnel.specs.State.{State}
-use Rattle.trace_funnel.specs.Turns.{load}
+use Rattle.port_formatter.specs.Names.{State, load}
 use Rattle.trace_funnel.proofs.Emptying.{less_load}
 use Rattle.port_formatter.proofs.Passings.{drains_none, drains_more, is_busy}
 use Rattle.port_formatter.proofs.funnelled.FunnelledFrames.drain.Goals as goal

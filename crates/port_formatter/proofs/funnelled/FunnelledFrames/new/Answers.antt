@@ -1,8 +1,6 @@
 use Rattle.std.proofs.Common.{◌≡◌, ◌*◌, ℕ, length, ◌∙◌, sym, ap, subst, arith}
 use Rattle.std.specs.List.{All}
-use Rattle.trace_funnel.specs.State.{State, fresh}
-use Rattle.trace_funnel.specs.Turns.{load}
-use Rattle.trace_funnel.specs.declared.turns.Turns.{Turns}
+use Rattle.port_formatter.specs.Names.{State, fresh, load, Turns}
 use Rattle.trace_funnel.proofs.Loading.{empty_load}
 use Rattle.trace_funnel.proofs.Naming.{IsNamed, empty_named}
 use Rattle.port_formatter.proofs.funnelled.FunnelledFrames.new.Goals as goal

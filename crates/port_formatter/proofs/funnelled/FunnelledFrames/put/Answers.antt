@@ -1,7 +1,6 @@
 use Rattle.std.proofs.Common.{List, sym, ◌∙◌, subst}
 use Rattle.std.specs.List.{All}
-use Rattle.trace_funnel.specs.Acts.{Offer}
-use Rattle.trace_funnel.specs.State.{State, id_at}
+use Rattle.port_formatter.specs.Names.{Offer, State, id_at}
 use Rattle.trace_funnel.specs.declared.tagged.Tagged.{Tagged as Given}
 use Rattle.trace_funnel.proofs.Naming.{IsNamed, IsOfSource, offer_named}
 use Rattle.port_formatter.proofs.Passings.{passes_one, some_stays, room_stays}

@@ -1,8 +1,7 @@
 use Rattle.std.proofs.Common.{◌+◌, ℕ, List, length, refl, sym, ◌∙◌, ap, subst, arith}
 use Rattle.std.specs.Prelude.{slice_index, is_some}
 use Rattle.std.proofs.lemmas.List.{take_all}
-use Rattle.frame_writer.specs.Sure.{of_one}
-use Rattle.trace_funnel.specs.State.{State, id_at}
+use Rattle.port_formatter.specs.Names.{of_one, State, id_at}
 use Rattle.trace_funnel.proofs.Placing.{has_place_is, place_at}
 use Rattle.port_formatter.specs.Passed.{bytes_acts}
 use Rattle.port_formatter.specs.Passing.{Passes}

@@ -1,7 +1,6 @@
 use Rattle.std.proofs.Common.{List, sym, ◌∙◌, subst, arith}
 use Rattle.std.specs.List.{All}
-use Rattle.trace_funnel.specs.Acts.{Turn}
-use Rattle.trace_funnel.specs.State.{State}
+use Rattle.port_formatter.specs.Names.{Turn, State}
 use Rattle.trace_funnel.specs.declared.tagged.Tagged.{Tagged as Given}
 use Rattle.trace_funnel.proofs.Naming.{IsNamed, IsOfSource, turn_named}
 use Rattle.port_formatter.proofs.Passings.{passes_one, some_stays, few_stays, room_stays}

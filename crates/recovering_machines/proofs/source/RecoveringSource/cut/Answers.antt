@@ -4,6 +4,7 @@ use Rattle.std.proofs.Common.{arith}
 use Rattle.stretch_readings.proofs.Feeding.{given_parted}
 use Rattle.recovering_machines.specs.Source.{reads_of}
 use Rattle.recovering_machines.proofs.Bytes.{keeps_parted}
+use Rattle.recovering_machines.proofs.Wholes.{none_whole}
 use Rattle.recovering_machines.proofs.source.RecoveringSource.cut.Goals as goal
 
 pub returns-clause-list : goal.returns-clause-list
@@ -14,6 +15,7 @@ returns-clause-list c = λ r k.
       keeps = keeps_parted s.machine z.result s.past s.count r c.skipped.result c.held.result k.keeps s.live
           c.skipped.ensures c.held.ensures z.ensures.reads z.ensures.mode z.ensures.list;
       hunts = refl;
+      whole = λ e. none_whole _;
     }
 
 pub returns-clause-given : goal.returns-clause-given

@@ -19,6 +19,6 @@ returns c = λ u k.
     let r = recovered self.plan.frames u in
     let port = c.port_end-port.ensures u k.port in
     same_tails self.count _ _ _ _ _ _ _ _ _ _ _ k.count (ap (λ e. e.mode) port) (ap (λ e. e.skipped) port)
-    (ap (λ e. e.tail) port) (c.unattributed.ensures r k.counted)
+    (ap (λ e. e.tail) port) (c.unattributed.ensures u k)
     (c.source_tails.ensures (parts_in r)
     (subst (λ l. StandFor self.plan (parts_in r) l) (sym c.as_slice.ensures.value) k.sources))

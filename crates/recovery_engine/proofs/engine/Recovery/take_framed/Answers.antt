@@ -1,77 +1,49 @@
-use Rattle.std.proofs.Common.{◌≡◌, ◌+◌, ◌-◌, List, ◌++◌, length, sym, ◌∙◌, ap, subst, arith, take}
-use Rattle.std.specs.List.{refill}
-use Rattle.std.proofs.lemmas.List.{length-append, length-take-le}
+use Rattle.std.proofs.Common.{◌≡◌, ◌+◌, ◌*◌, ◌≤◌, ◌++◌, ℕ, List, arith, length, take, ap, ◌∙◌, sym, subst}
 use Rattle.trace_values.specs.Placed.{placed_from}
-use Rattle.trace_values.proofs.Placing.{length-placed_from}
-use Rattle.recovery_report.specs.Words.{parts_by}
-use Rattle.recovery_report.specs.Counts.{CountsGrow}
-use Rattle.recovery_report.specs.Port.{recovered}
-use Rattle.recovery_report.specs.Report.{parts_in}
-use Rattle.recovery_engine.specs.Slots.{StandFor}
-use Rattle.recovery_engine.specs.declared.slot.RecoveringSlot.{RecoveringSlot}
-use Rattle.source_merge.proofs.Refilled.{refilled}
-use Rattle.recovery_engine.proofs.Blocks.{framed_counts, framed_parts, port_list}
-use Rattle.recovery_engine.proofs.Feeding.{report_more, stands_more}
+use Rattle.frame_grammar.specs.Reading.{offsets_of}
+use Rattle.frame_grammar.specs.Whole.{IsWhole, without_halves}
+use Rattle.frame_grammar.specs.declared.gather.PlacedFrame.{PlacedFrame}
+use Rattle.frame_runs.specs.Gathered.{IsGathered, frame_places}
+use Rattle.source_events.specs.declared.event.Event.{Event}
+use Rattle.source_events.specs.declared.packet.Packet.{Packet}
+use Rattle.stretch_readings.specs.declared.heard.Heard.{Heard}
+use Rattle.recovery_report.specs.Report.{report}
+use Rattle.recovery_engine.specs.Engine.{Stands, count_of, plan_of}
+use Rattle.recovery_engine.specs.Front.{TakesFront, TakesGathered}
+use Rattle.recovery_engine.specs.declared.engine.Recovery.{Recovery}
 use Rattle.recovery_engine.proofs.engine.Recovery.take_framed.Goals as goal
 
-pub returns-clause-list : goal.returns-clause-list
-returns-clause-list g c = λ u k.
-    let self = c.args.self.now in
-    let plan = self.plan in
-    let port = c.feed_block-taken in
-    let bytes = take port.result.bytes c.args.piece.now in
-    let w = placed_from c.args.at bytes in
-    let last = c.args.at + (port.result.bytes - 1) in
-    let old = self.slots.items in
-    let new = c.take_step.new.slots in
-    let all : refill (length old) old new ≡ new =
-    refilled old new (c.take_step.ensures.len ∙ ap length c.as_mut_slice.ensures.value) in
+-- the frame that a piece begins with, as its front
+front_of : {S : Type 0} (gets : S → List (Event (Heard Packet)) → S → Type 0) (left : S → ℕ) (frame : PlacedFrame)
+    (at n : ℕ) (piece : List ℕ) (old new : Recovery × S) → frame.at ≡ at → n ≡ 16 + 2 * frame.halves →
+    16 + 2 * frame.halves ≤ length piece → IsWhole (take (16 + 2 * frame.halves) piece) frame.bytes frame.halves →
+    frame_places frame ≡ offsets_of (without_halves (placed_from at (take (16 + 2 * frame.halves) piece))) →
+    TakesGathered gets left frame old new → TakesFront gets left at piece n old new
+front_of gets left frame at n piece old new here size room whole offsets t =
+    let w = take (16 + 2 * frame.halves) piece in
+    let q : IsGathered frame.at w frame = subst (λ (a : ℕ). IsGathered a w frame) (sym here)
+    (record { whole = whole; offsets = offsets }) in
     record {
-      port = port_list self.port port.new.self u c.args.at bytes plan.frames port.ensures.list k.port;
-      sources =
-          subst (λ (l : List RecoveringSlot). StandFor plan (parts_in (recovered plan.frames (u ++ w))) l)
-          (sym all)
-          (stands_more g.V.Hearer.gets plan u (u ++ w)
-          (parts_by 0 last port.result.step c.as_slice-cells.result.now)
-          (c.as_mut_slice.result.now, (c.args.out.now, c.args.to.now)) (new, (c.take_step.new.out, c.take_step.new.to))
-          (framed_parts self.port c.args.at bytes port.result.step port.new.out.items port.ensures.fed port.ensures.cells
-          plan.frames u port.result.bytes c.requires.framed
-          (length-take-le port.result.bytes c.args.piece.now port.ensures.bytes.1) k.port
-          ∙ ap (λ l. parts_in (recovered plan.frames u) ++ parts_by 0 last port.result.step l)
-          (sym c.as_slice-cells.ensures.value))
-          c.take_step.ensures.takes
-          (subst (λ (l : List RecoveringSlot). StandFor plan (parts_in (recovered plan.frames u)) l)
-          (sym c.as_mut_slice.ensures.value) k.sources));
-      counted =
-          c.add_step.ensures.counted (recovered plan.frames u) (recovered plan.frames (u ++ w))
-          (subst (λ l. CountsGrow (recovered plan.frames u) (recovered plan.frames (u ++ w)) port.result.step l)
-          (sym c.as_slice-cells.ensures.value)
-          (framed_counts self.port c.args.at bytes port.result.step port.new.out.items
-          port.ensures.fed port.ensures.cells plan.frames u c.requires.framed k.port)) k.counted;
-      count = (let e = k.count in let l = length-append u w in let p = length-placed_from c.args.at bytes in
-          let n = length-take-le port.result.bytes c.args.piece.now port.ensures.bytes.1 in omega (arith, e, l, p, n));
+      bytes = (omega (arith, size), omega (arith, size, room));
+      plan = t.plan;
+      count = t.count ∙ ap (λ (k : ℕ). count_of old.0 + k) (sym size);
+      list = λ u k. subst (λ (m : ℕ). Stands new.0 (u ++ placed_from at (take m piece))) (sym size)
+          (subst (λ (a : ℕ). Stands new.0 (u ++ placed_from a w)) here (t.list u w k q));
+      given = (
+        t.given.0,
+        t.given.1,
+        λ u k. subst (λ (m : ℕ). report (plan_of old.0) (u ++ placed_from at (take m piece))
+            ≡ report (plan_of old.0) u ++ t.given.0) (sym size)
+            (subst (λ (a : ℕ). report (plan_of old.0) (u ++ placed_from a w) ≡ report (plan_of old.0) u ++ t.given.0)
+            here (t.given.2 u w k q)),
+      );
+      room = (let r = t.room in omega (arith, r, size));
     }
 
-pub returns-clause-given : goal.returns-clause-given
-returns-clause-given g c =
-    let self = c.args.self.now in
-    let plan = self.plan in
-    let port = c.feed_block-taken in
-    let bytes = take port.result.bytes c.args.piece.now in
-    let w = placed_from c.args.at bytes in
-    let last = c.args.at + (port.result.bytes - 1) in (
-      c.take_step.ensures.takes.0,
-      c.take_step.ensures.takes.1,
-      λ u k. report_more g.V.Hearer.gets plan u (u ++ w)
-          (parts_by 0 last port.result.step c.as_slice-cells.result.now)
-          (c.as_mut_slice.result.now, (c.args.out.now, c.args.to.now))
-          (c.take_step.new.slots, (c.take_step.new.out, c.take_step.new.to))
-          (framed_parts self.port c.args.at bytes port.result.step port.new.out.items port.ensures.fed port.ensures.cells
-          plan.frames u port.result.bytes c.requires.framed
-          (length-take-le port.result.bytes c.args.piece.now port.ensures.bytes.1) k.port
-          ∙ ap (λ l. parts_in (recovered plan.frames u) ++ parts_by 0 last port.result.step l)
-          (sym c.as_slice-cells.ensures.value))
-          c.take_step.ensures.takes
-          (subst (λ (l : List RecoveringSlot). StandFor plan (parts_in (recovered plan.frames u)) l)
-          (sym c.as_mut_slice.ensures.value) k.sources),
-    )
+pub returns-in-Some : goal.returns-in-Some
+returns-in-Some g c =
+    front_of g.V.Hearer.gets g.V.Hearer.room c.in-Some.frame c.args.at c.size.result c.args.piece.now
+    (c.args.self.now, (c.args.out.now, c.args.to.now))
+    (c.take_gathered.new.self, (c.take_gathered.new.out, c.take_gathered.new.to))
+    c.in-Some.ensures.at c.size.ensures c.in-Some.ensures.room c.in-Some.ensures.whole c.in-Some.ensures.offsets
+    c.take_gathered.ensures

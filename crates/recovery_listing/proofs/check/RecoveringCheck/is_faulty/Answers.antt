@@ -1,12 +1,15 @@
-use Rattle.std.proofs.Common.{◌∙◌, ℕ, ap}
+use Rattle.std.proofs.Common.{◌∙◌, ℕ, ap, length}
 use Rattle.std.specs.Prelude.{◌==◌, not}
 use Rattle.trace_values.specs.Placed.{placed}
+use Rattle.source_events.proofs.Captures.{capture_rises}
 use Rattle.recovery_report.specs.Report.{report}
+use Rattle.recovery_laws.proofs.Guessed.{no_guess}
 use Rattle.recovery_listing.specs.Check.{plan_of}
 use Rattle.recovery_listing.proofs.Counted.{some_fault}
 use Rattle.recovery_listing.proofs.check.RecoveringCheck.is_faulty.Goals as goal
 
 pub returns : goal.returns
 returns c = λ seen h.
+    let plan = plan_of c.args.self.now in
     ap (λ (n : ℕ). not (n == 0)) (c.faults.ensures (placed seen) h)
-    ∙ some_fault (report (plan_of c.args.self.now) (placed seen))
+    ∙ some_fault (report plan (placed seen)) (no_guess plan 0 (length seen) (placed seen) (capture_rises seen))

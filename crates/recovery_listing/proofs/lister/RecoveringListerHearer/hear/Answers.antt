@@ -4,9 +4,9 @@ use Rattle.recovery_listing.proofs.lister.RecoveringListerHearer.hear.Goals as g
 
 pub returns-in-Ok-clause-gets : goal.returns-in-Ok-clause-gets
 returns-in-Ok-clause-gets c =
-    event_put c.args.self.now (record { lister = c.put_next.new.self; is_faulty = c.args.self.now.is_faulty })
-    c.args.outlet.now c.put_next.new.outlet c.args.event c.in-Ok.what (sym c.strictly.ensures ∙ c.in-Ok.is) refl
-    c.put_next.ensures.gets c.put_next.ensures.line
+    event_put c.args.self.now (record { lister = c.give.new.self; is_faulty = c.args.self.now.is_faulty })
+    c.args.outlet.now c.give.new.outlet c.args.event c.in-Ok.what (sym c.strictly.ensures ∙ c.in-Ok.is) refl
+    c.give.ensures.gets
 
 pub returns-in-Err-clause-gets : goal.returns-in-Err-clause-gets
 returns-in-Err-clause-gets c =

@@ -1,6 +1,6 @@
 use Rattle.std.proofs.Common.{◌≡◌, ℕ, ◌+◌, List, refl, sym, ◌∙◌, ap, subst, length, length-append}
 use Rattle.std.specs.Prelude.{Bool, not}
-use Rattle.port_formatter.specs.Owed.{last_of}
+use Rattle.trace_stream.specs.Owed.{last_of}
 use Rattle.trace_stream.specs.Debt.{owing, with_debt}
 use Rattle.script_rebuild.specs.Rebuilt.{ending}
 use Rattle.script_rebuild.specs.Rebuilder.{HasEnded, plan_of}

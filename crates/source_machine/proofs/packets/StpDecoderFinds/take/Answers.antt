@@ -1,4 +1,4 @@
-use Rattle.source_machine.proofs.Reading.{stp_same}
+use Rattle.source_machine.proofs.Reading.{stp_alike, stp_same}
 use Rattle.source_machine.proofs.packets.StpDecoderFinds.take.Goals as goal
 
 pub returns-in_err-taken-clause-same : goal.returns-in_err-taken-clause-same
@@ -9,3 +9,12 @@ returns-in-None-clause-same c = stp_same c.args.self.now c.take_part.new.self c.
 
 pub returns-in-Some-clause-same : goal.returns-in-Some-clause-same
 returns-in-Some-clause-same c = stp_same c.args.self.now c.take_part.new.self c.take_part.ensures.stays
+
+pub returns-in_err-taken-clause-alike : goal.returns-in_err-taken-clause-alike
+returns-in_err-taken-clause-alike c = stp_alike c.args.self.now c.take_part.new.self c.take_part.ensures.stays
+
+pub returns-in-None-clause-alike : goal.returns-in-None-clause-alike
+returns-in-None-clause-alike c = stp_alike c.args.self.now c.take_part.new.self c.take_part.ensures.stays
+
+pub returns-in-Some-clause-alike : goal.returns-in-Some-clause-alike
+returns-in-Some-clause-alike c = stp_alike c.args.self.now c.take_part.new.self c.take_part.ensures.stays
