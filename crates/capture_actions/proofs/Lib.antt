@@ -14,4 +14,5 @@ pub mod Few
 pub mod Values
 pub mod Tallies
 pub mod Parts
+pub mod Reading
 pub mod Kinded

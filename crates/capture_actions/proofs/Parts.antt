@@ -1,6 +1,6 @@
 -- The lines of the kinds, one after the other, and the parts of the summary that has them.
 use Rattle.std.proofs.Common.{◌≡◌, ℕ, zero, suc, ◌+◌, ◌-◌, ◌<◌, ◌≤◌, List, [], ◌∷◌, ◌++◌, length, get_or, set, take, sym, ◌∙◌, ap, subst, refl, arith, Option, None, Some, Bool, true, false, cond, inl, inr, append-nil, append_assoc, flat_map, lit<}
-use Rattle.std.specs.Prelude.{option_map}
+use Rattle.std.specs.Prelude.{is_none, option_map}
 use Rattle.std.specs.Option.{is_some}
 use Rattle.std.specs.List.{range_with_len}
 use Rattle.std.proofs.lemmas.Bool.{cases_eq}
@@ -10,15 +10,18 @@ use Rattle.source_counts.specs.declared.counts.Counts.{Counts}
 use Rattle.source_events.specs.Plan.{kind_of}
 use Rattle.source_events.specs.declared.tails.Tails.{Tails}
 use Rattle.capture_actions.specs.Names.{Event, Packet, Plan, Placed, Stop, ID_COUNT, Pours, Debt, Paid, owing, with_debt}
-use Rattle.capture_actions.specs.Names.{stop_of, fault_of, source_counts_of, port_counts_of, tails_of, port_counts_text, tails_text}
-use Rattle.capture_actions.specs.KindCheck.{parts_by, last_by}
+use Rattle.capture_actions.specs.Names.{stop_of, fault_of, source_counts_of, port_counts_of, tails_of, port_counts_text}
+use Rattle.capture_actions.specs.KindCheck.{last_by}
 use Rattle.capture_actions.specs.KindCounts.{HasCounted, number_at}
-use Rattle.capture_actions.specs.Kinds.{kind_text, words_text, source_kinds_text, kinds_in, lines_by, all_lines, kinds_by, none}
+use Rattle.capture_actions.specs.KindLines.{PutsPart, counted_line, line_of, owed, parts_by}
+use Rattle.capture_actions.specs.Kinds.{kind_text, words_text, source_kinds_text, kinds_in, lines_by, all_lines, ending_of, kinds_by, none}
 use Rattle.capture_actions.specs.Summary.{source_text}
 use Rattle.capture_actions.specs.Words.{number_of}
 use Rattle.capture_actions.specs.declared.item_word.ItemWord.{ItemWord}
 use Rattle.capture_actions.specs.declared.item_word.TheConstants.{WORDS}
 use Rattle.capture_actions.specs.declared.kind_counts.KindCounts.{KindCounts}
+use Rattle.capture_actions.specs.declared.kind_lines.KindLines.{KindLines}
+use Rattle.capture_actions.specs.declared.kind_lines.Part.TheVariants.{Nothing, Source, Last}
 use Rattle.capture_actions.proofs.Tallies.{few_words}
 
 -- the lines of the first words
@@ -67,11 +70,8 @@ counts_more counts n new of within h e x few = elim (cases_eq x n) [
 
 -- the lines of the sources, from what is kept of each
 module _ (plan : Plan) (kinds : KindCounts) (es : List (Event Packet)) (counted : HasCounted kinds es) where
-  abbrev pub kept : ℕ → ItemWord → ℕ
+  abbrev kept : ℕ → ItemWord → ℕ
   kept x word = number_at kinds x (number_of word)
-
-  abbrev pub line : List Counts → ℕ → List ℕ
-  line counts x = source_kinds_text plan x (get_or counts x none) (kept x)
 
   kinds_same : (x : ℕ) → x < ID_COUNT → (mapped : Bool) →
       ◌≡◌ {A = List ℕ} (cond mapped (words_text x (kept x) WORDS) []) (cond mapped (words_text x (kinds_in es x) WORDS) [])
@@ -79,37 +79,34 @@ module _ (plan : Plan) (kinds : KindCounts) (es : List (Event Packet)) (counted 
   kinds_same x few true =
       words_same x (kept x) (kinds_in es x) (λ word. counted x (number_of word) few (few_words word)) WORDS
 
-  all_same : (counts : List Counts) (of : ℕ → Counts) → ((x : ℕ) → x < ID_COUNT → get_or counts x none ≡ of x) →
-      lines_by (line counts) 0 ID_COUNT ≡ all_lines plan of es
-  all_same counts of h =
-      lines_same (line counts) (λ x. source_kinds_text plan x (of x) (kinds_in es x)) 0 ID_COUNT
+  pub lines_are : (counts : List Counts) (of : ℕ → Counts) → ((x : ℕ) → x < ID_COUNT → get_or counts x none ≡ of x) →
+      lines_by (counted_line plan kinds counts) 0 ID_COUNT ≡ all_lines plan of es
+  lines_are counts of h =
+      lines_same (counted_line plan kinds counts) (λ x. source_kinds_text plan x (of x) (kinds_in es x)) 0 ID_COUNT
       (λ x few.
       let within : x < ID_COUNT = omega arith in
       ap (λ (c : Counts). source_kinds_text plan x c (kept x)) (h x within)
       ∙ ap (λ (l : List ℕ). source_text x (of x) ++ l) (kinds_same x within (is_some (kind_of plan x))))
 
-  -- at the end of a capture without a fault
-  pub ended_on : (u : List Placed) (counts : List Counts) (tails : Tails) (stop : Option Stop) (out : List ℕ) →
-      is_some stop ≡ false → option_map stop_of stop ≡ fault_of plan u →
-      ((x : ℕ) → x < ID_COUNT → get_or counts x none ≡ source_counts_of plan u x) → tails ≡ tails_of plan u →
-      (let port = port_counts_of plan u in out ≡ port_counts_text port.fulls port.halves port.frames) →
-      out ++ (lines_by (line counts) 0 ID_COUNT ++ last_by plan stop (Some tails)) ≡ kinds_by plan u es (fault_of plan u)
-  ended_on u counts tails None out on stopped same ends port =
-      ap (λ (l : List ℕ). l ++ (lines_by (line counts) 0 ID_COUNT ++ tails_text tails)) port
-      ∙ (let head = (let p = port_counts_of plan u in port_counts_text p.fulls p.halves p.frames) in
-      ap (λ (l : List ℕ). head ++ (l ++ tails_text tails)) (all_same counts (source_counts_of plan u) same)
-      ∙ ap (λ (t : Tails). head ++ (all_lines plan (source_counts_of plan u) es ++ tails_text t)) ends)
-      ∙ ap (kinds_by plan u es) stopped
-  ended_on u counts tails (Some stop) out on stopped same ends port = cc
+  last_is : (u : List Placed) (stop : Option Stop) (tails : Option Tails) →
+      (is_none stop ≡ true → tails ≡ Some (tails_of plan u)) →
+      last_by plan stop tails ≡ ending_of plan u (option_map stop_of stop)
+  last_is u None tails ends = ap (last_by plan None) (ends refl)
+  last_is u (Some stop) tails ends = refl
 
-  -- at a fault
-  pub ended_at : (u : List Placed) (counts : List Counts) (tails : Option Tails) (stop : Option Stop) →
-      is_some stop ≡ true → option_map stop_of stop ≡ fault_of plan u →
-      ((x : ℕ) → x < ID_COUNT → get_or counts x none ≡ none) →
-      lines_by (line counts) 0 ID_COUNT ++ last_by plan stop tails ≡ kinds_by plan u es (fault_of plan u)
-  ended_at u counts tails None at stopped same = cc
-  ended_at u counts tails (Some stop) at stopped same =
-      ap (λ (l : List ℕ). l ++ last_by plan (Some stop) tails) (all_same counts (λ x. none) same)
+  -- at the end of a capture, or at a fault
+  pub ended : (u : List Placed) (counts : List Counts) (tails : Option Tails) (stop : Option Stop) (out : List ℕ) →
+      option_map stop_of stop ≡ fault_of plan u →
+      ((x : ℕ) → x < ID_COUNT → get_or counts x none ≡ source_counts_of plan u x) →
+      (is_none stop ≡ true → tails ≡ Some (tails_of plan u)) →
+      (let port = port_counts_of plan u in out ≡ port_counts_text port.fulls port.halves port.frames) →
+      out ++ (lines_by (counted_line plan kinds counts) 0 ID_COUNT ++ last_by plan stop tails)
+      ≡ kinds_by plan u es (fault_of plan u)
+  ended u counts tails stop out stopped same ends port =
+      let head : List ℕ = (let p = port_counts_of plan u in port_counts_text p.fulls p.halves p.frames) in
+      ap (λ (l : List ℕ). l ++ (lines_by (counted_line plan kinds counts) 0 ID_COUNT ++ last_by plan stop tails)) port
+      ∙ ap (λ (l : List ℕ). head ++ (l ++ last_by plan stop tails)) (lines_are counts (source_counts_of plan u) same)
+      ∙ ap (λ (l : List ℕ). head ++ (all_lines plan (source_counts_of plan u) es ++ l)) (last_is u stop tails ends)
       ∙ ap (kinds_by plan u es) stopped
 
 -- the parts, one after the other
@@ -167,8 +164,41 @@ module _ (line : ℕ → List ℕ) (last : List ℕ) where
       (subst (λ (l : List ℕ). Pours (debt (suc (suc count))) (debt (suc count)) before l true) (sym put)
       (pours (suc count) (omega arith) before))
 
+-- what a call of `KindLines::pour` puts
+pub puts_nothing : (line : ℕ → List ℕ) (left : ℕ) → left ≡ 0 → (before : List ℕ) →
+    PutsPart Nothing (λ last. debt line last left) (λ last. debt line last left) before before
+puts_nothing line left h before = record {
+  nothing = λ e last.
+      subst (λ (n : ℕ). Pours (debt line last n) (debt line last n) before before false) (sym h)
+      (record { put = refl; fewer = λ k. cc; none = λ k. (refl, refl) });
+  source = λ e. cc;
+  last = λ e. cc;
+}
+
+pub puts_last : (line : ℕ → List ℕ) (old new : ℕ) (before : List ℕ) → new ≡ old - 1 → 0 < old → new ≡ 0 →
+    PutsPart Last (λ last. debt line last old) (λ last. debt line last new) before before
+puts_last line old new before e some h = record {
+  nothing = λ k. cc;
+  source = λ k. cc;
+  last = λ k. (refl, λ last. pours_last line last old new before (before ++ last) e some h refl);
+}
+
+pub puts_source : (line : ℕ → List ℕ) (old new : ℕ) (before after : List ℕ) → new ≡ old - 1 → old ≤ ID_COUNT + 1 → 0 < new →
+    after ≡ before ++ line (ID_COUNT - new) →
+    PutsPart Source (λ last. debt line last old) (λ last. debt line last new) before after
+puts_source line old new before after e few some put = record {
+  nothing = λ k. cc;
+  source = λ k last. pours_line line last new before after old e few some put;
+  last = λ k. cc;
+}
+
 -- where nothing is owed nothing is, whatever else the parts are then
-pub still_paid : (old new : ℕ → List ℕ) (left : ℕ) (out : List ℕ) → owing (old left) left ≡ Paid →
+paid_by : (old new : ℕ → List ℕ) (left : ℕ) (out : List ℕ) → owing (old left) left ≡ Paid →
     with_debt out (owing (new left) left) ≡ out ++ []
-still_paid old new zero out paid = sym (append-nil out)
-still_paid old new (suc left) out paid = cc
+paid_by old new zero out paid = sym (append-nil out)
+paid_by old new (suc left) out paid = cc
+
+pub still_paid : (old new : Plan) (was now : KindCounts) (lines : KindLines) (before after out : List ℕ) →
+    owed old was lines before ≡ Paid → with_debt out (owed new now lines after) ≡ out ++ []
+still_paid old new was now lines before after out paid =
+    paid_by (parts_by (line_of old was lines) before) (parts_by (line_of new now lines) after) lines.left out paid

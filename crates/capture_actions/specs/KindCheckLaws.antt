@@ -1,7 +1,8 @@
 -- How the summary with kinds stays after a fault.
-use Rattle.std.specs.Prelude.{[], refl, List, ◌++◌}
+use Rattle.std.specs.Prelude.{ℕ, [], refl, List, ◌++◌}
 use Rattle.std.proofs.Common.{ap, ◌∙◌}
 use Rattle.capture_actions.specs.Names.{IsLawful, Plan, Event, Packet, placed, report_of, fault_of}
+use Rattle.capture_actions.specs.Faulty.{read_of}
 use Rattle.capture_actions.specs.FaultyLaws as laws
 use Rattle.capture_actions.specs.Kinds.{kinds_meaning, kinds_by}
 
@@ -12,9 +13,10 @@ kinds_lawful plan = record {
   faulty_stays = laws.faulty_stays plan;
   text_stays = λ xs ys h. refl;
   ending_stays = λ xs ys h.
-      let es = report_of plan (placed xs) in
-      ap (λ (l : List (Event Packet)). kinds_by plan (placed (xs ++ ys)) l (fault_of plan (placed (xs ++ ys))))
+      ap (λ (l : List ℕ). kinds_by plan (placed l) (report_of plan (placed (xs ++ ys))) (fault_of plan (placed (xs ++ ys))))
+      (laws.read_stays plan xs ys h)
+      ∙ ap (λ (l : List (Event Packet)). kinds_by plan (placed (read_of plan xs)) l (fault_of plan (placed (xs ++ ys))))
       (laws.same_report plan xs ys h)
-      ∙ laws.ending_stays plan (λ u fault. kinds_by plan u es fault) (λ u w fault. refl) xs ys h;
+      ∙ ap (kinds_by plan (placed (read_of plan xs)) (report_of plan (placed xs))) (laws.same_fault plan xs ys h);
   text_grows = λ xs ys. ([], refl);
 }

@@ -8,7 +8,7 @@ use Rattle.capture_actions.specs.Names.{source_counts_of, tails_of, fault_of, po
 use Rattle.capture_actions.specs.Names.{Event, Packet, report_of}
 use Rattle.source_events.specs.Plan.{kind_of}
 use Rattle.source_counts.specs.declared.counts.Counts.{Counts}
-use Rattle.capture_actions.specs.Faulty.{is_stp, IsFaulty}
+use Rattle.capture_actions.specs.Faulty.{is_stp, IsFaulty, read_of}
 use Rattle.capture_actions.specs.KindCounts.{kind_count, MOST}
 use Rattle.capture_actions.specs.Summary.{source_text}
 use Rattle.capture_actions.specs.Words.{text_of}
@@ -43,25 +43,30 @@ kinds_in es id word = min (kind_count id word es) MOST
 abbrev pub none : Counts
 none = record { bytes = 0; items = 0 }
 
--- The lines of all sources, 0 to 126. At a fault the lines of how much each sent are not there.
+-- the lines of all sources, 0 to 126
 unfoldable pub lines_by : (ℕ → List ℕ) → ℕ → ℕ → List ℕ
 lines_by line first count = flat_map line (range_with_len first count)
 
 abbrev pub all_lines : Plan → (ℕ → Counts) → List (Event Packet) → List ℕ
 all_lines plan counts es = lines_by (λ id. source_kinds_text plan id (counts id) (kinds_in es id)) 0 ID_COUNT
 
--- The counts of the port and of all sources with their kinds, and the end lines; at a fault the kinds of the events
--- before it, and its line.
+-- the end lines, or the line of the fault in their place
+abbrev pub ending_of : Plan → List Placed → Option (Place × (Reason × Option ℕ)) → List ℕ
+ending_of plan u None = tails_text (tails_of plan u)
+ending_of plan u (Some fault) = fault_line (is_stp plan fault.1.1) fault
+
+-- the counts of the port and of all sources with their kinds, and the end lines or the fault's line
 abbrev pub kinds_by : Plan → List Placed → List (Event Packet) → Option (Place × (Reason × Option ℕ)) → List ℕ
-kinds_by plan u es None =
+kinds_by plan u es fault =
     let port = port_counts_of plan u in
     port_counts_text port.fulls port.halves port.frames
-    ++ (all_lines plan (source_counts_of plan u) es ++ tails_text (tails_of plan u))
-kinds_by plan u es (Some fault) = all_lines plan (λ id. none) es ++ fault_line (is_stp plan fault.1.1) fault
+    ++ (all_lines plan (source_counts_of plan u) es ++ ending_of plan u fault)
 
+-- At a fault the counts are those of the bytes up to the one with which it is certain: that is the last of the frame
+-- that the fault is in.
 abbrev pub kinds_summary : Plan → List ℕ → List ℕ
 kinds_summary plan bytes =
-    kinds_by plan (placed bytes) (report_of plan (placed bytes)) (fault_of plan (placed bytes))
+    kinds_by plan (placed (read_of plan bytes)) (report_of plan (placed bytes)) (fault_of plan (placed bytes))
 
 -- all that `check` with kinds makes of the bytes of a capture: nothing is written before the end
 abbrev pub kinds_meaning : Plan → Meaning

@@ -23,6 +23,7 @@ pub mod Listing
 pub mod LineLaws
 pub mod ListingLaws
 pub mod Filtered
+pub mod Guesses
 pub mod SourceClocks
 pub mod Filter
 pub mod Lister
@@ -33,6 +34,7 @@ pub mod Summary
 pub mod CheckLaws
 pub mod Check
 pub mod Kinds
+pub mod KindLines
 pub mod KindCheck
 pub mod KindCheckLaws
 pub mod Ignored

@@ -119,7 +119,6 @@ pub fn put_source_line(outlet: &mut Outlet, id: SourceId, counts: Counts)
 
 /// The same of the source of this number.
 fn put_source(outlet: &mut Outlet, number: u8, reading: &Engine)
-    requires live { is_live reading.now ≡ true }
     requires source { number ≤ 126 }
     requires room { length outlet.old + TEXT_ROOM ≤ OUTLET_ROOM }
     ensures text { (u : List Placed) → engine.Stands reading.now u →
@@ -134,7 +133,6 @@ fn put_source(outlet: &mut Outlet, number: u8, reading: &Engine)
 
 /// The lines of all sources that sent a byte, in the order of their IDs.
 fn put_sources(outlet: &mut Outlet, reading: &Engine)
-    requires live { is_live reading.now ≡ true }
     requires room { length outlet.old + ID_COUNT * SOURCE_ROOM + TEXT_ROOM ≤ OUTLET_ROOM }
     ensures text { (u : List Placed) → engine.Stands reading.now u →
         outlet.new ≡ outlet.old ++ sources_text (source_counts_of (engine.plan_of reading.now) u) ID_COUNT }

@@ -1,9 +1,10 @@
 //! Which events of a capture are listed.
 
-ghost use Rattle.std.specs.Prelude.{◌≡◌, ◌↔◌, ◌++◌, ◌∷◌, [], List, IsTrue, not, ◌||◌, is_none, Some};
+ghost use Rattle.std.specs.Prelude.{◌≡◌, ◌↔◌, ◌++◌, ◌∷◌, [], List, IsTrue, not, ◌&&◌, ◌||◌, is_none, Some};
 ghost use Rattle.capture_actions.specs.Names.{Event, Packet, is_item};
 ghost use Rattle.capture_actions.specs.Listing.{meets, is_within, is_listed};
-ghost use Rattle.capture_actions.specs.Filter.{wants};
+ghost use Rattle.capture_actions.specs.Filter.{SawAll, bounds_in, wants};
+ghost use Rattle.capture_actions.specs.Guesses.{is_open};
 
 use item_tap::{Bounds, ChoiceWindow, Choices, Content};
 use source_events::{Event, Packet, What};
@@ -31,8 +32,28 @@ fn meets(only: &Option<Choices>, event: &Event<Packet>) -> bool
     }
 }
 
+/// Whether an event meets one of the choices, if there are any.
+fn is_chosen(only: &Option<Choices>, event: &Event<Packet>) -> bool
+    ensures { result ≡ meets only.now event.now }
+{
+    match only {
+        None => true,
+        Some(choices) => choices.hold_for(event),
+    }
+}
+
+/// Whether the window, if there is one, is open after what it saw.
+fn is_open(window: &Option<ChoiceWindow>) -> bool
+    ensures { (es : List (Event Packet)) → SawAll window.now es → result ≡ is_open (bounds_in window.now) es }
+{
+    match window {
+        None => true,
+        Some(window) => window.is_open(),
+    }
+}
+
 impl Filter {
-    ghost use Rattle.capture_actions.specs.Filter.{bounds_in, SawAll, HasSeen};
+    ghost use Rattle.capture_actions.specs.Filter.{HasSeen};
 
     /// What is asked of the events, none of which is seen yet.
     pub fn new(only: Option<Choices>, bounds: Option<Bounds>) -> Filter
@@ -64,6 +85,15 @@ impl Filter {
             None => true,
             Some(choices) => choices.hold_in(Some(source), content),
         }
+    }
+
+    /// Whether a guess is listed: one that meets one of the choices, if there are any, while the window, if there is one,
+    /// is open. The window does not see it.
+    pub fn lists_guess(&self, event: &Event<Packet>) -> bool
+        ensures { (es : List (Event Packet)) → HasSeen self.now es →
+            result ≡ (is_open (bounds_in self.now.window) es && meets self.now.only event.now) }
+    {
+        is_open(&self.window) && is_chosen(&self.only, event)
     }
 
     /// Whether an event is within the window, which takes it, if there is one, or is the notice of a lock, which the

@@ -51,7 +51,7 @@ impl KindCounts {
 
     /// Counts an item of this word of this source.
     #[inline(always)]
-    fn add(&mut self, id: SourceId, word: ItemWord)
+    pub fn add(&mut self, id: SourceId, word: ItemWord)
         ensures { (es : List (Event Packet)) (event : Event Packet) → event.source ≡ Some id →
             word_of event.what ≡ Some word → HasCounted self.old es → HasCounted self.new (es ++ event ∷ []) }
     {
@@ -61,7 +61,7 @@ impl KindCounts {
 
     /// An event of no source, or which is no item, leaves the counts as they are.
     #[inline(always)]
-    fn pass(&self)
+    pub fn pass(&self)
         ensures source { (es : List (Event Packet)) (event : Event Packet) → event.source ≡ None →
             HasCounted self.now es → HasCounted self.now (es ++ event ∷ []) }
         ensures notice { (es : List (Event Packet)) (event : Event Packet) → word_of event.what ≡ None →

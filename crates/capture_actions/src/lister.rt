@@ -9,9 +9,10 @@ ghost use Rattle.std.specs.Option.{is_some};
 ghost use Rattle.std.specs.Prelude.{true};
 ghost use Rattle.source_merge.specs.Receiver.{trigger_event};
 ghost use Rattle.stp_grammar.specs.Said.{said_item, IsProperSaid};
-ghost use Rattle.trace_text.specs.LineText.{itm_event, raw_event, stp_event};
+ghost use Rattle.trace_text.specs.LineText.{doubted, itm_event, raw_event, stp_event};
 ghost use Rattle.capture_actions.specs.Faulty.{is_stp};
 ghost use Rattle.capture_actions.specs.Filter.{plan_by, HasSeen};
+ghost use Rattle.capture_actions.specs.Guesses.{guess_by};
 ghost use Rattle.capture_actions.specs.Listing.{is_listed, itm_packets, remark_of};
 ghost use Rattle.capture_actions.specs.SourceClocks.{AllStand, without};
 
@@ -26,7 +27,8 @@ use source_merge::Receiver;
 use stp_grammar::said::Said;
 use trace_stream::{OUTLET_ROOM, Outlet, TEXT_ROOM};
 use trace_text::{
-    Digits, EVENT_ROOM, Remark, print, print_fault, put_line, put_raw_line, put_said_line,
+    Digits, EVENT_ROOM, Remark, print, print_fault, print_guess, print_misread, put_line,
+    put_raw_line, put_said_line,
 };
 use trace_values::SourceId;
 
@@ -152,6 +154,43 @@ impl Lister {
     {
         print_fault(outlet, stop, sends_stp(self.plan.plan(), stop.source));
         self.clocks.renew(stop.source);
+    }
+
+    /// Takes a guess into the clocks of guesses, and puts its line with what they say beside it, if it is listed. The
+    /// lister's own clocks and its window do not take it.
+    pub fn put_guess(
+        &mut self,
+        outlet: &mut Outlet,
+        clocks: &mut SourceClocks,
+        event: &Event<Packet>,
+    )
+        requires fits { EventFits PacketFits event.now }
+        requires room { length outlet.old + TEXT_ROOM ≤ OUTLET_ROOM }
+        ensures plan { self.new.plan ≡ self.old.plan }
+        ensures filter { self.new.filter ≡ self.old.filter }
+        ensures own { self.new.clocks ≡ self.old.clocks }
+        ensures clocks { (es : List (Event Packet)) → AllStand clocks.old es →
+            AllStand clocks.new (es ++ event.now ∷ []) }
+        ensures line { (clocked seen : List (Event Packet)) → AllStand clocks.old clocked →
+            HasSeen self.old.filter seen →
+            outlet.new ≡ outlet.old ++ guess_by (plan_by self.old.plan self.old.filter) clocked seen event.now }
+        ensures bound { length outlet.new ≤ length outlet.old + EVENT_ROOM }
+    {
+        let remark = clocks.remark(event);
+        if self.filter.lists_guess(event) {
+            let stp = sends_stp(self.plan.plan(), event.source);
+            print_guess(outlet, &mut self.digits, event, stp, remark);
+        }
+    }
+
+    /// Puts the line of a fault of a guess, which no clock sees.
+    pub fn put_misread(&self, outlet: &mut Outlet, stop: &Stop)
+        requires room { length outlet.old + TEXT_ROOM ≤ OUTLET_ROOM }
+        ensures line { outlet.new ≡
+            outlet.old ++ doubted (fault_line (is_stp self.now.plan stop.now.source) (stop_of stop.now)) }
+        ensures bound { length outlet.new ≤ length outlet.old + EVENT_ROOM }
+    {
+        print_misread(outlet, stop, sends_stp(self.plan.plan(), stop.source));
     }
 
     /// Takes the next event, which is one that comes seldom.

@@ -1,28 +1,22 @@
 -- Each line of the exercise can be written after those before it: the first STP item is Async and the second Version 3, so
 -- that version 3 is in force at each datum.
-use Rattle.std.proofs.Common.{◌≡◌, ℕ, zero, suc, ◌+◌, ◌-◌, ◌≤◌, ◌/◌, ◌%◌, ◌==◌, List, [], ◌∷◌, ◌++◌, refl, ◌∙◌, ap, arith, Bool, true, false, cond, append-nil}
-use Rattle.std.specs.Prelude.{Option, None, Some, Result, Ok, Err}
-use Rattle.std.specs.List.{filter_map, last_or}
+use Rattle.std.proofs.Common.{◌≡◌, ℕ, zero, suc, ◌+◌, ◌-◌, ◌≤◌, ◌/◌, ◌%◌, ◌==◌, List, [], ◌∷◌, ◌++◌, refl, ◌∙◌, ap}
+use Rattle.std.proofs.Common.{arith, Bool, true, false, cond, append-nil, Option, None, Some, Result, Ok, Err}
+use Rattle.std.proofs.Common.{filter_map}
+use Rattle.std.specs.List.{last_or}
 use Rattle.std.proofs.lemmas.List.Elements.{filter_map-append}
 use Rattle.std.proofs.lemmas.List.Concat.{flat_map-append}
 use Rattle.std.proofs.lemmas.Bool.Decides.{nat_tests}
-use Rattle.stp_grammar.specs.declared.packet.Width.TheVariants.{Sixteen}
-use Rattle.stp_grammar.specs.declared.item.Stamp.TheVariants.{Natural}
+use Rattle.capture_exercise.specs.Names.{Sixteen, Natural, Async, Version, Datum, Line2, Of, LineFault, Made, Itm, Stp}
+use Rattle.capture_exercise.specs.Names.{Raw, itm_packet, stp_item, byte_item, item_of, place, by_item, items_by}
+use Rattle.capture_exercise.specs.Names.{given_items, fitting}
 use Rattle.stp_grammar.specs.declared.item.StpItem.{StpItem}
-use Rattle.stp_grammar.specs.declared.item.StpItem.TheVariants.{Async, Version, Datum}
 use Rattle.stp_encoder.specs.Fitting.{version_named, version_after, is_unfit}
 use Rattle.script_text.specs.declared.items.Item.TheVariants as items
-use Rattle.script_text.specs.declared.version_two.Line2.{Line2}
-use Rattle.script_text.specs.declared.lines.Line.TheVariants.{Of}
-use Rattle.script_text.specs.declared.line_fault.LineFault.{LineFault}
 use Rattle.script_text.specs.declared.line_fault.LineFault.TheVariants.{Unfit}
-use Rattle.trace_vectors.specs.declared.made.Made.{Made}
-use Rattle.trace_vectors.specs.declared.made.Made.TheVariants.{Itm, Stp, Raw, Trigger}
-use Rattle.trace_vectors.specs.Items.{itm_packet, stp_item, byte_item, item_of, place}
+use Rattle.trace_vectors.specs.declared.made.Made.TheVariants.{Trigger}
 use Rattle.script_text.specs.VersionTwo.{as_one}
 use Rattle.script_text.specs.declared.lines.Line.{Line}
-use Rattle.script_rebuild.specs.Script.{by_item, items_by, given_items}
-use Rattle.script_rebuild.specs.Versions.{fitting}
 use Rattle.capture_exercise.specs.Exercise.{line_of_made, line_at, exercise_lines}
 use Rattle.capture_exercise.proofs.Making.{lines_more}
 

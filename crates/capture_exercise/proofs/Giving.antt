@@ -1,16 +1,11 @@
 -- The bytes that are left, as they are made and given.
-use Rattle.std.proofs.Common.{◌≡◌, ℕ, ◌+◌, ◌≤◌, List, ◌++◌, length, take, drop, sym, ◌∙◌, ap, append_assoc, drop-drop, take_all, arith}
-use Rattle.std.proofs.lemmas.List.{take-append-drop, drop-append-le}
+use Rattle.std.proofs.Common.{◌≡◌, ℕ, ◌+◌, List, ◌++◌, length, take, drop, sym, ◌∙◌, ap, append_assoc, drop-drop}
+use Rattle.std.proofs.Common.{take_all, arith}
+use Rattle.std.proofs.lemmas.List.{take-append-drop}
 use Rattle.std.specs.declared.option.Option.{Option}
 use Rattle.std.specs.Io.KnownBytes.{Appends}
 use Rattle.std.proofs.KnownBytes.{Appends-trans}
-use Rattle.trace_io.specs.Bytes.{TakesFront, AppendsPrefix}
-
--- some of what is pending is given
-pub advanced : (items more : List ℕ) (given count : ℕ) → count ≤ length (drop given items) →
-    drop (given + count) items ++ more ≡ drop count (drop given items ++ more)
-advanced items more given count le =
-    ap (λ (l : List ℕ). l ++ more) (sym (drop-drop count given items)) ∙ sym (drop-append-le count (drop given items) more le)
+use Rattle.capture_exercise.specs.Names.{TakesFront, AppendsPrefix}
 
 pub told : (items more : List ℕ) (given count : ℕ) →
     drop given items ++ more ≡ take count (drop given items) ++ (drop (given + count) items ++ more)

@@ -4,12 +4,7 @@ use Rattle.std.proofs.Common.{zero-add, arith}
 use Rattle.std.proofs.lemmas.List.{take-append-drop}
 use Rattle.std.proofs.lemmas.List.FromFn.{take-map-range_with_len, map-range_with_len_more}
 use Rattle.std.proofs.Math.Seq.{drop-append_seam}
-use Rattle.stp_grammar.specs.declared.packet.Order.TheVariants.{Msn}
-use Rattle.frame_writer.specs.Written.{frames_by}
-use Rattle.port_formatter.specs.Port.{written}
-use Rattle.script_text.specs.declared.version_two.Line2.{Line2}
-use Rattle.script_rebuild.specs.Script.{in_order}
-use Rattle.script_rebuild.specs.Segments.{segments_with_ends}
+use Rattle.capture_exercise.specs.Names.{Msn, frames_by, written, Line2, in_order, segments_with_ends}
 use Rattle.script_rebuild.specs.ScriptLaws.{sure_whole}
 use Rattle.capture_exercise.specs.Exercise.{line_at, exercise_port, exercise_lines, exercise_capture}
 use Rattle.capture_exercise.specs.Making.{so_far, later}

@@ -1,17 +1,12 @@
 -- Each line of the exercise says what it may: its numbers are in their ranges, and it is of a source for it.
-use Rattle.std.proofs.Common.{◌≡◌, ℕ, zero, suc, ◌+◌, ◌/◌, ◌%◌, ◌<◌, ◌==◌, List, [], ◌∷◌, refl, sym, subst, arith, rules, Bool, true, false, cond}
-use Rattle.std.specs.Prelude.{slice_index}
+use Rattle.std.proofs.Common.{◌≡◌, ℕ, zero, suc, ◌+◌, ◌/◌, ◌%◌, ◌<◌, ◌==◌, List, [], ◌∷◌, refl, sym, subst, arith}
+use Rattle.std.proofs.Common.{rules, Bool, true, false, cond, slice_index}
+use Rattle.capture_exercise.specs.Names.{Sixteen, Natural, Async, Version, Datum, in_order, CanBePut2, Made, Itm, Stp}
+use Rattle.capture_exercise.specs.Names.{Raw, itm_packet, stp_item, byte_item, item_of, place, IsProperMade}
 use Rattle.itm_grammar.specs.declared.packet.Size.TheVariants.{Four}
 use Rattle.itm_grammar.specs.declared.packet.Lateness.TheVariants.{Exact}
 use Rattle.itm_grammar.specs.declared.packet.ItmPacket.TheVariants.{Sync, Software, Local}
-use Rattle.stp_grammar.specs.declared.packet.Width.TheVariants.{Sixteen}
-use Rattle.stp_grammar.specs.declared.item.Stamp.TheVariants.{Natural}
-use Rattle.stp_grammar.specs.declared.item.StpItem.TheVariants.{Async, Version, Datum}
-use Rattle.script_rebuild.specs.Script.{in_order}
-use Rattle.script_rebuild.specs.Writer.{CanBePut2}
-use Rattle.trace_vectors.specs.declared.made.Made.{Made}
-use Rattle.trace_vectors.specs.declared.made.Made.TheVariants.{Itm, Stp, Raw, Trigger}
-use Rattle.trace_vectors.specs.Items.{itm_packet, stp_item, byte_item, item_of, place, IsProperMade}
+use Rattle.trace_vectors.specs.declared.made.Made.TheVariants.{Trigger}
 use Rattle.capture_exercise.specs.Exercise.{line_of_made, line_at}
 
 abbrev IsSaid : Made → Type 0

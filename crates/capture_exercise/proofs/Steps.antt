@@ -1,17 +1,12 @@
 -- One piece of the capture.
-use Rattle.std.proofs.Common.{◌≡◌, refl, ℕ, ◌+◌, ◌-◌, ◌<◌, List, [], ◌∷◌, ◌++◌, sym, ◌∙◌, ap, subst, append-nil, arith, Bool, true, false, cond}
-use Rattle.std.specs.Prelude.{Option, None, Result, Ok, Err, OnOk}
+use Rattle.std.proofs.Common.{◌≡◌, refl, ℕ, ◌+◌, ◌-◌, ◌<◌, List, [], ◌∷◌, ◌++◌, sym, ◌∙◌, ap, subst, append-nil, arith}
+use Rattle.std.proofs.Common.{Bool, true, false, cond, Option, None, Result, Ok, Err, OnOk}
+use Rattle.capture_exercise.specs.Names.{Msn, written, Line2, LineFault, in_order, fitting, segments_with_ends}
+use Rattle.capture_exercise.specs.Names.{sure_lines}
 use Rattle.stp_grammar.specs.declared.packet.Order.{Order}
-use Rattle.stp_grammar.specs.declared.packet.Order.TheVariants.{Msn}
-use Rattle.port_formatter.specs.Port.{written}
-use Rattle.script_text.specs.declared.version_two.Line2.{Line2}
-use Rattle.script_text.specs.declared.line_fault.LineFault.{LineFault}
 use Rattle.script_text.specs.Lines.{◌>>=◌}
 use Rattle.trace_funnel.specs.declared.turns.Turns.{Turns}
 use Rattle.script_rebuild.specs.Routed.{placed, puttable, line_if}
-use Rattle.script_rebuild.specs.Script.{in_order}
-use Rattle.script_rebuild.specs.Versions.{fitting}
-use Rattle.script_rebuild.specs.Segments.{segments_with_ends, sure_lines}
 use Rattle.script_rebuild.specs.Writer.{Stands}
 use Rattle.script_rebuild.specs.declared.writer.LineWriter.{LineWriter}
 use Rattle.capture_exercise.specs.Exercise.{line_at, exercise_port, exercise_lines, exercise_capture}
@@ -66,15 +61,6 @@ last_made false k all out h e = e ∙ sym (append-nil out)
 pub line_made : (w : Bool) (k : ℕ) (all more out : List ℕ) → 0 < cond w 0 k → all ≡ out ++ more → cond w [] all ≡ out ++ cond w [] more
 line_made true k all more out h e = absurd (omega arith)
 line_made false k all more out h e = e
-
-pub one_fewer : (w : Bool) (items n : ℕ) → 0 < cond w 0 (items - n + 1) → n < items →
-    cond w 0 (items - (n + 1) + 1) + 1 ≡ cond w 0 (items - n + 1)
-one_fewer true items n h lt = absurd (omega arith)
-one_fewer false items n h lt = omega arith
-
-pub last_piece : (w : Bool) (items n : ℕ) → 0 < cond w 0 (items - n + 1) → n ≡ items → 0 + 1 ≡ cond w 0 (items - n + 1)
-last_piece true items n h e = absurd (omega arith)
-last_piece false items n h e = omega arith
 
 -- more pieces come where the capture isn't whole
 pub unmade : (w : Bool) (k : ℕ) → 0 < cond w 0 k → w ≡ false

@@ -2,19 +2,14 @@
 -- capture where its front is lost.
 use Rattle.std.specs.Prelude.{ℕ, List, [], ◌∷◌, map, drop, None}
 use Rattle.std.specs.List.{range_with_len}
+use Rattle.capture_exercise.specs.Names.{Msn, Port, written, Of, Line2, One, Made, Itm, Stp, Raw, item_of}
+use Rattle.capture_exercise.specs.Names.{script_segments}
 use Rattle.trace_values.specs.declared.reading_modes.FramesMode.TheVariants.{Hunt as FramesHunt}
 use Rattle.trace_values.specs.declared.reading_modes.PacketsMode.TheVariants.{Hunt}
-use Rattle.stp_grammar.specs.declared.packet.Order.TheVariants.{Msn}
-use Rattle.port_formatter.specs.Port.{Port, written}
 use Rattle.source_events.specs.declared.plan.Plan.{Plan}
 use Rattle.script_text.specs.declared.items.Item.TheVariants as items
-use Rattle.script_text.specs.declared.lines.Line.TheVariants.{Of}
-use Rattle.script_text.specs.declared.version_two.Line2.{Line2}
-use Rattle.script_text.specs.declared.version_two.Line2.TheVariants.{One, Trigger as TriggerLine}
-use Rattle.trace_vectors.specs.declared.made.Made.{Made}
-use Rattle.trace_vectors.specs.declared.made.Made.TheVariants.{Itm, Stp, Raw, Trigger}
-use Rattle.trace_vectors.specs.Items.{item_of}
-use Rattle.script_rebuild.specs.Segments.{script_segments}
+use Rattle.script_text.specs.declared.version_two.Line2.TheVariants.{Trigger as TriggerLine}
+use Rattle.trace_vectors.specs.declared.made.Made.TheVariants.{Trigger}
 
 -- the plan by which it is written and read
 abbrev pub exercise_plan : Plan

@@ -1,3 +1,4 @@
+pub mod Names
 pub mod Exercise
 pub mod Making
 pub mod Maker

@@ -1,8 +1,6 @@
 -- The capture of the exercise, as it is made line by line.
 use Rattle.std.specs.Prelude.{ℕ, List, [], ◌∷◌, length, drop}
-use Rattle.stp_grammar.specs.declared.packet.Order.TheVariants.{Msn}
-use Rattle.script_rebuild.specs.Script.{in_order}
-use Rattle.script_rebuild.specs.Segments.{sure_lines}
+use Rattle.capture_exercise.specs.Names.{Msn, in_order, sure_lines}
 use Rattle.capture_exercise.specs.Exercise.{exercise_port, exercise_lines, exercise_capture}
 
 -- what is sure of it after this many items

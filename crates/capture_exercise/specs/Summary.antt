@@ -1,10 +1,9 @@
 -- What `exercise` writes: how many items the exercise has and how many bytes its capture, and the summary of what is
 -- left of that.
 use Rattle.std.specs.Prelude.{ℕ, List, [], ◌++◌, length, false}
-use Rattle.trace_stream.specs.Served.{Meaning}
+use Rattle.capture_exercise.specs.Names.{Meaning, summary}
 use Rattle.trace_text.specs.CountText.{exercise_lines}
 use Rattle.capture_actions.specs.Faulty as readings
-use Rattle.capture_actions.specs.Summary.{summary}
 use Rattle.capture_exercise.specs.Exercise.{exercise_plan, exercise_capture, exercise_rest}
 use Rattle.capture_exercise.specs.declared.plans.ExercisePlan.{ExercisePlan}
 

@@ -1,7 +1,6 @@
 -- How what `exercise` writes stays after a fault.
-use Rattle.std.specs.Prelude.{ℕ, List, [], ◌++◌, refl}
-use Rattle.std.proofs.Common.{ap}
-use Rattle.trace_stream.specs.Served.{IsLawful}
+use Rattle.std.proofs.Common.{ℕ, List, [], ◌++◌, refl, ap}
+use Rattle.capture_exercise.specs.Names.{IsLawful}
 use Rattle.trace_text.specs.CountText.{exercise_lines}
 use Rattle.capture_actions.specs.CheckLaws.{check_lawful}
 use Rattle.capture_exercise.specs.declared.plans.ExercisePlan.{ExercisePlan}

@@ -1,7 +1,7 @@
 //! `exercise`: what an exercise has, and what is read of it.
 
 ghost use Rattle.std.specs.Prelude.{◌≡◌, ◌+◌, ◌≤◌, ◌++◌, [], ℕ, List, length, true};
-ghost use Rattle.source_events.specs.Plan.{is_sound};
+ghost use Rattle.capture_exercise.specs.Names.{is_sound};
 
 use crate::plans::ExercisePlan;
 use capture_actions::Check;

@@ -1,15 +1,10 @@
 //! The items as lines of a script.
 
 ghost use Rattle.std.specs.Prelude.{◌≡◌, ◌≤◌, ◌∷◌, []};
-ghost use Rattle.script_text.specs.declared.lines.Line.TheVariants.{Of};
-ghost use Rattle.script_text.specs.declared.version_two.Line2.TheVariants.{One};
-ghost use Rattle.script_rebuild.specs.Script.{in_order};
-ghost use Rattle.script_rebuild.specs.Writer.{CanBePut2};
-ghost use Rattle.trace_vectors.specs.Items.{IsProperMade};
+ghost use Rattle.capture_exercise.specs.Names.{Of, One, in_order, CanBePut2, IsProperMade};
 ghost use Rattle.capture_exercise.specs.Exercise.{line_of_made, line_at};
 
 use script_text::{Item, Line, Line2, RawBytes};
-use source_events::SourceIds;
 use trace_values::SourceId;
 use trace_vectors::{Made, item_at};
 
@@ -35,17 +30,6 @@ fn line_of(made: Made) -> Line2
         Made::Raw(byte) => of_source(16, Item::Raw(RawBytes::of_byte(byte))),
         Made::Trigger(byte) => Line2::Trigger(byte),
     }
-}
-
-/// The sources of system traces: 2 alone.
-pub(crate) fn stp_sources() -> SourceIds
-    ensures { result ≡ 2 ∷ [] }
-{
-    let mut ids = SourceIds::new();
-    if let Some(id) = SourceId::new(2) {
-        ids.push(id);
-    }
-    ids
 }
 
 /// The line of the item of this number.

@@ -1,15 +1,14 @@
 //! The capture, piece by piece.
 
 ghost use Rattle.std.specs.Prelude.{◌≡◌, ◌↔◌, ◌≤◌, ◌<◌, ◌+◌, ◌*◌, ◌++◌, ◌∷◌, [], IsTrue, length, false, None};
-ghost use Rattle.stp_grammar.specs.declared.packet.Order.TheVariants.{Msn};
-ghost use Rattle.port_formatter.specs.declared.straight.TheConstants.{KEPT_ROOM};
-ghost use Rattle.script_rebuild.specs.Script.{in_order};
+ghost use Rattle.capture_exercise.specs.Names.{Msn, KEPT_ROOM, in_order};
 ghost use Rattle.script_rebuild.specs.Writer.{Stands, stp_of, order_of, turns_of, count_of};
 ghost use Rattle.script_text.specs.declared.raw_bytes.TheConstants.{RAW_BYTES};
 ghost use Rattle.capture_exercise.specs.declared.maker.TheConstants.{MOST_ITEMS};
 ghost use Rattle.capture_exercise.specs.Exercise.{exercise_port, exercise_lines, exercise_capture};
 
-use crate::lines::{line_at, stp_sources};
+use crate::lines::line_at;
+use crate::plans::source_ids;
 use port_formatter::Formatter;
 use script_rebuild::LineWriter;
 use stp_grammar::packet::Order;
@@ -52,7 +51,7 @@ impl CaptureMaker {
         CaptureMaker {
             items,
             next: 0,
-            writer: LineWriter::new(&stp_sources(), Order::Msn, Formatter::new(64, 0)),
+            writer: LineWriter::new(&source_ids(2), Order::Msn, Formatter::new(64, 0)),
             is_whole: false,
         }
     }

@@ -1,7 +1,7 @@
 //! What `exercise` is asked for.
 
 ghost use Rattle.std.specs.Prelude.{◌≡◌, ◌≤◌, ◌∷◌, [], true};
-ghost use Rattle.source_events.specs.Plan.{is_sound};
+ghost use Rattle.capture_exercise.specs.Names.{is_sound};
 ghost use Rattle.capture_exercise.specs.Exercise.{exercise_plan};
 
 use source_events::{Plan, SourceIds};
@@ -17,7 +17,7 @@ pub struct ExercisePlan {
 }
 
 /// The source of this number.
-fn source_ids(number: u8) -> SourceIds
+pub(crate) fn source_ids(number: u8) -> SourceIds
     requires { number ≤ 126 }
     ensures { result ≡ number ∷ [] }
 {

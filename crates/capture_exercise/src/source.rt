@@ -3,11 +3,10 @@
 ghost use Rattle.std.specs.Prelude.{◌≡◌, ◌+◌, ◌*◌, ◌-◌, ◌^◌, ◌<◌, ◌≤◌, ◌++◌, [], Some, length, take, drop};
 ghost use Rattle.std.specs.Io.{ReadsAtMost};
 ghost use Rattle.std.specs.Io.KnownBytes.{ReadConsumes};
-ghost use Rattle.trace_io.specs.Causes.{HasCause, CountsEmpty, faults_after};
+ghost use Rattle.capture_exercise.specs.Names.{HasCause, CountsEmpty, faults_after, KEPT_ROOM};
 ghost use Rattle.capture_exercise.specs.Exercise.{exercise_capture, exercise_rest};
 ghost use Rattle.capture_exercise.specs.Maker as makers;
 ghost use Rattle.capture_exercise.specs.declared.maker.TheConstants.{MOST_BYTES};
-ghost use Rattle.port_formatter.specs.declared.straight.TheConstants.{KEPT_ROOM};
 
 use crate::maker::{CaptureMaker, MOST_ITEMS};
 use trace_io::{Failed, Source};

@@ -2,8 +2,7 @@
 
 ghost use Rattle.std.specs.Prelude.{◌≡◌, ◌≤◌, length, IfOk, OnOk};
 ghost use Rattle.std.specs.Io.KnownBytes.{Appends};
-ghost use Rattle.trace_io.specs.Bytes.{AppendsPrefix};
-ghost use Rattle.trace_io.specs.Causes.{HasCause};
+ghost use Rattle.capture_exercise.specs.Names.{AppendsPrefix, HasCause};
 ghost use Rattle.capture_exercise.specs.Exercise.{exercise_capture};
 ghost use Rattle.capture_exercise.specs.declared.maker.TheConstants.{MOST_BYTES};
 

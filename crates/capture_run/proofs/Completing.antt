@@ -6,7 +6,7 @@ use Rattle.std.specs.Prelude.{codes}
 use Rattle.capture_exercise.specs.Summary.{exercise_summary}
 use Rattle.capture_words.specs.declared.job.Task.{Task}
 use Rattle.capture_words.specs.declared.job.Task.TheVariants as tasks
-use Rattle.capture_words.specs.declared.recover.Recover.TheVariants.{Off, On}
+use Rattle.capture_words.specs.declared.recover.Recover.TheVariants.{Off, On, Near}
 use Rattle.capture_run.specs.Actions.{HasDone, IsSoundInput, limit_of, meaning_of}
 use Rattle.trace_stream.specs.Told.{Notes}
 use Rattle.capture_run.specs.Recovers.{GoesOn, IsRecovered}
@@ -90,14 +90,21 @@ said old new note is noted = subst (Notes old.noted new.noted old.note_faults ne
 -- what goes on is noted so at a fault, and reads as many bytes as the words allow
 recovering : (task : Task) → GoesOn task → ((meaning_of task).fault_status ≡ Recovered)
     × ((meaning_of task).exact ≡ false) × ((limit : ℕ) → limit_of task limit ≡ limit)
+recovering (tasks.Show plan only window Off) on = absurd (on refl)
 recovering (tasks.Show plan only window On) on = (refl, refl, λ limit. refl)
-recovering (tasks.Show plan only window Off) on = absurd on
-recovering (tasks.Check plan On kinds) on = (refl, refl, λ limit. refl)
-recovering (tasks.Check plan Off kinds) on = absurd on
-recovering (tasks.Split frames id) on = absurd on
+recovering (tasks.Show plan only window Near) on = (refl, refl, λ limit. refl)
+recovering (tasks.Check plan Off kinds) on = absurd (on refl)
+recovering (tasks.Check plan On false) on = (refl, refl, λ limit. refl)
+recovering (tasks.Check plan On true) on = (refl, refl, λ limit. refl)
+recovering (tasks.Check plan Near false) on = (refl, refl, λ limit. refl)
+recovering (tasks.Check plan Near true) on = (refl, refl, λ limit. refl)
+recovering (tasks.Text plan port Off) on = absurd (on refl)
 recovering (tasks.Text plan port On) on = (refl, refl, λ limit. refl)
-recovering (tasks.Text plan port Off) on = absurd on
-recovering (tasks.Vcd plan hz) on = absurd on
+recovering (tasks.Text plan port Near) on = (refl, refl, λ limit. refl)
+recovering (tasks.Vcd plan hz Off) on = absurd (on refl)
+recovering (tasks.Vcd plan hz On) on = (refl, refl, λ limit. refl)
+recovering (tasks.Vcd plan hz Near) on = (refl, refl, λ limit. refl)
+recovering (tasks.Split frames id) on = absurd on
 recovering (tasks.Rebuild plan sync half) on = absurd on
 recovering (tasks.Funnel plan sync half turns) on = absurd on
 recovering tasks.Realign on = absurd on

@@ -22,7 +22,7 @@ pub kind_of : (task : Task) → Kind task
 kind_of (Show plan only window recover) = inl (record { run = λ l s t e r. r; done = λ l s t e r. r })
 kind_of (Split frames id) = inl (record { run = λ l s t e r. r; done = λ l s t e r. r })
 kind_of (Text plan port recover) = inl (record { run = λ l s t e r. r; done = λ l s t e r. r })
-kind_of (Vcd plan hz) = inl (record { run = λ l s t e r. r; done = λ l s t e r. r })
+kind_of (Vcd plan hz recover) = inl (record { run = λ l s t e r. r; done = λ l s t e r. r })
 kind_of (Check plan recover kinds) = inl (record { run = λ l s t e r. r; done = λ l s t e r. r })
 kind_of (Rebuild plan sync half) = inl (record { run = λ l s t e r. r; done = λ l s t e r. r })
 kind_of (Funnel plan sync half turns) = inl (record { run = λ l s t e r. r; done = λ l s t e r. r })

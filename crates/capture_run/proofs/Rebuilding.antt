@@ -52,7 +52,7 @@ module _ (limit : ℕ) (old new : Streams) (script : List ℕ) (loses : Loses ol
   by_task (Show plan only window recover) p sound run is = absurd is
   by_task (Split frames id) p sound run is = absurd is
   by_task (Text plan port recover) p sound run is = absurd is
-  by_task (Vcd plan hz) p sound run is = absurd is
+  by_task (Vcd plan hz recover) p sound run is = absurd is
   by_task (Check plan recover kinds) p sound run is = absurd is
   by_task Realign p sound run is = absurd is
   by_task (Ring size) p sound run is = absurd is

@@ -11,14 +11,8 @@ use Rattle.trace_stream.specs.declared.outcome.Outcome.{Outcome}
 use Rattle.trace_stream.specs.declared.outcome.Outcome.TheVariants.{AtEnd, FaultFound, OverLimit}
 use Rattle.trace_stream.specs.declared.outcome.Outcome.TheVariants.{ReadFailed, WriteFailed}
 use Rattle.capture_words.specs.declared.job.Task.{Task}
-use Rattle.capture_actions.specs.declared.list_plan.ListPlan.{ListPlan}
-use Rattle.capture_actions.specs.declared.port_text_plan.PortTextPlan.{PortTextPlan}
-use Rattle.capture_words.specs.declared.recover.Recover.{Recover}
-use Rattle.source_events.specs.declared.plan.Plan.{Plan}
 use Rattle.capture_exercise.specs.Summary.{exercise_summary}
-use Rattle.value_dump.specs.declared.vcd_plan.VcdPlan.{VcdPlan}
-use Rattle.capture_run.specs.Actions.{HasDone, checking, dumping, limit_of, meaning_of, showing, summing}
-use Rattle.capture_run.specs.Actions.{texting}
+use Rattle.capture_run.specs.Actions.{HasDone, limit_of, meaning_of}
 use Rattle.capture_run.specs.Notes.{text_of, status_of, is_image, over_text, over_status}
 use Rattle.trace_stream.specs.Told.{HasTold, Noted, Notes, told}
 use Rattle.trace_stream.proofs.Telling.{notes_more}
@@ -176,34 +170,17 @@ module _ {Plan : Type 0} (notes : Plan → TaskNotes) (plan now : Plan) (same : 
         (writes_over fault m limit new.left s.bytes s.out recent (noted s.fed) exact (says s.bytes)
         (ap noted s.feeds) s.outcome))
 
--- a run by equal words, plans and tasks
-pub same_show : (r s : Recover) (p q : ListPlan) (limit : ℕ) (old new : Streams) (status : Status) → r ≡ s → p ≡ q →
-    HasRun (showing s p) limit old new status → HasRun (showing r q) limit old new status
-same_show r s p q limit old new status is same run =
-    subst (λ (v : ListPlan). HasRun (showing r v) limit old new status) same
-    (subst (λ (v : Recover). HasRun (showing v p) limit old new status) (sym is) run)
+-- a run by equal plans, choices and tasks
+module _ {P : Type 0} (meaning : P → TaskMeaning) (limit : ℕ) (old new : Streams) (status : Status) where
+  pub same_plan : (p q : P) → p ≡ q → HasRun (meaning p) limit old new status → HasRun (meaning q) limit old new status
+  same_plan p q same run = subst (λ v. HasRun (meaning v) limit old new status) same run
 
-pub same_summary : (a b : Bool) (p q : Plan) (limit : ℕ) (old new : Streams) (status : Status) → a ≡ b → p ≡ q →
-    HasRun (summing b p) limit old new status → HasRun (summing a q) limit old new status
-same_summary a b p q limit old new status is same run =
-    subst (λ (v : Plan). HasRun (summing a v) limit old new status) same
-    (subst (λ (v : Bool). HasRun (summing v p) limit old new status) (sym is) run)
-
-pub same_check : (r s : Recover) (kinds : Bool) (p q : Plan) (limit : ℕ) (old new : Streams) (status : Status) →
-    r ≡ s → p ≡ q → HasRun (checking s kinds p) limit old new status → HasRun (checking r kinds q) limit old new status
-same_check r s kinds p q limit old new status is same run =
-    subst (λ (v : Plan). HasRun (checking r kinds v) limit old new status) same
-    (subst (λ (v : Recover). HasRun (checking v kinds p) limit old new status) (sym is) run)
-
-pub same_text : (r s : Recover) (p q : PortTextPlan) (limit : ℕ) (old new : Streams) (status : Status) → r ≡ s → p ≡ q →
-    HasRun (texting s p) limit old new status → HasRun (texting r q) limit old new status
-same_text r s p q limit old new status is same run =
-    subst (λ (v : PortTextPlan). HasRun (texting r v) limit old new status) same
-    (subst (λ (v : Recover). HasRun (texting v p) limit old new status) (sym is) run)
-
-pub same_dump : (p q : VcdPlan) (limit : ℕ) (old new : Streams) (status : Status) → p ≡ q →
-    HasRun (dumping p) limit old new status → HasRun (dumping q) limit old new status
-same_dump p q limit old new status same run = subst (λ (v : VcdPlan). HasRun (dumping v) limit old new status) same run
+module _ {C P : Type 0} (meaning : C → P → TaskMeaning) (limit : ℕ) (old new : Streams) (status : Status) where
+  pub same_run : (a b : C) (p q : P) → a ≡ b → p ≡ q → HasRun (meaning b p) limit old new status →
+      HasRun (meaning a q) limit old new status
+  same_run a b p q is same run =
+      same_plan (meaning a) limit old new status p q same
+      (subst (λ v. HasRun (meaning v p) limit old new status) (sym is) run)
 
 pub same_task : (t u : Task) (limit : ℕ) (old new : Streams) (status : Status) → t ≡ u →
     HasDone u limit old new status → HasDone t limit old new status

@@ -1,11 +1,11 @@
 -- What each action that reads the input does: which bytes have a fault, what is written for them, what comes after it
 -- at the end or at a fault, what is noted at the end and at a fault, and how the run ends then.
-use Rattle.std.specs.Prelude.{◌≡◌, ℕ, Bool, List, [], ◌++◌, true, false, is_some, length, not, ◌==◌, None}
+use Rattle.std.specs.Prelude.{◌≡◌, ℕ, Bool, List, [], ◌++◌, true, false, is_some, length, not, ◌==◌, Option, None}
+use Rattle.std.specs.Prelude.{Some}
 use Rattle.capture_words.specs.declared.job.Task.{Task}
 use Rattle.capture_words.specs.declared.job.Task.TheVariants.{Show, Split, Check, Rebuild, Exercise, Realign, Ring}
 use Rattle.capture_words.specs.declared.job.Task.TheVariants.{Unring, Text, Funnel, Vcd}
-use Rattle.capture_words.specs.declared.recover.Recover.{Recover}
-use Rattle.capture_words.specs.declared.recover.Recover.TheVariants.{Off, On}
+use Rattle.capture_words.specs.Values.{guesses_of}
 use Rattle.buffer_ring.specs.Image.{pointer, is_full, dropped}
 use Rattle.capture_actions.specs.Port.{port_of}
 use Rattle.capture_actions.specs.PortText.{port_text_meaning}
@@ -24,10 +24,14 @@ use Rattle.capture_exercise.specs.Summary.{exercise_summary}
 use Rattle.source_events.specs.Report.{of_source}
 use Rattle.source_merge.specs.Answering.{fault_of}
 use Rattle.port_slip.specs.Segments.{realigned}
-use Rattle.recovery_listing.specs.Listing as recovering
 use Rattle.recovery_listing.specs.Listing.{is_faulty}
+use Rattle.recovery_listing.specs.Near.{listing_meaning}
 use Rattle.recovery_listing.specs.PortText as recovering_text
+use Rattle.recovery_listing.specs.PortText.{noted_text}
+use Rattle.recovery_listing.specs.Dump.{dump_meaning, noted_dump}
+use Rattle.recovery_listing.specs.Kinds.{kinds_meaning_on}
 use Rattle.recovery_listing.specs.Summary as recovering_summary
+use Rattle.recovery_listing.specs.declared.going_on.GoingOn.{GoingOn}
 use Rattle.source_events.specs.declared.plan.Plan.{Plan}
 use Rattle.script_rebuild.specs.Rebuilt.{routed_script, rebuild_meaning}
 use Rattle.script_rebuild.specs.declared.plan.RebuildPlan.{RebuildPlan}
@@ -123,28 +127,45 @@ unring_notes plan = record {
   exact = true;
 }
 
--- a listing and a summary, up to a capture's first fault, the latter with or without the counts of kinds, or with all
--- its faults
-abbrev pub showing : Recover → ListPlan → TaskMeaning
-showing Off p = task_of (show_meaning p) nothing (captured last_note)
-showing On p = task_of (recovering.show_meaning p) nothing (recovered_notes p.plan)
+-- what is asked of a capture that is read on after each fault, with its guesses or without
+abbrev pub going_on : {P : Type 0} → P → Bool → GoingOn P
+going_on plan guesses = record { plan = plan; guesses = guesses }
 
+-- A listing, up to a capture's first fault, or over all its faults. Here and below, where reading goes on it is said
+-- whether guesses are told.
+abbrev pub listing_on : GoingOn ListPlan → TaskMeaning
+listing_on on = task_of (listing_meaning on) nothing (recovered_notes on.plan.plan)
+
+abbrev pub showing : Option Bool → ListPlan → TaskMeaning
+showing None p = task_of (show_meaning p) nothing (captured last_note)
+showing (Some guesses) p = listing_on (going_on p guesses)
+
+-- A summary up to a capture's first fault, and one over all its faults, with the counts of kinds or without. No guess is
+-- counted.
 abbrev pub summing : Bool → Plan → TaskMeaning
 summing false plan = task_of (check_meaning plan) nothing (captured last_note)
 summing true plan = task_of (kinds_meaning plan) nothing (captured last_note)
 
-abbrev pub checking : Recover → Bool → Plan → TaskMeaning
-checking Off kinds plan = summing kinds plan
-checking On kinds plan = task_of (recovering_summary.check_meaning plan) nothing (recovered_notes plan)
+abbrev pub summing_on : Bool → Plan → TaskMeaning
+summing_on false plan = task_of (recovering_summary.check_meaning plan) nothing (recovered_notes plan)
+summing_on true plan = task_of (kinds_meaning_on plan) nothing (recovered_notes plan)
 
--- the text of a stimulus port, up to a capture's first fault, or with all its faults as notes
-abbrev pub texting : Recover → PortTextPlan → TaskMeaning
-texting Off p = task_of (port_text_meaning p) nothing (captured (report_note p.plan))
-texting On p = task_of (recovering_text.port_text_meaning p) (recovering_text.noted p) (recovered_notes p.plan)
+abbrev pub checking : Option Bool → Bool → Plan → TaskMeaning
+checking None kinds plan = summing kinds plan
+checking (Some guesses) kinds plan = summing_on kinds plan
 
--- a value dump
-abbrev pub dumping : VcdPlan → TaskMeaning
-dumping p = task_of (vcd_meaning p) nothing (captured (report_note p.plan))
+-- the text of a stimulus port, up to a capture's first fault, or over all its faults, which are notes
+abbrev pub texting : Option Bool → PortTextPlan → TaskMeaning
+texting None p = task_of (port_text_meaning p) nothing (captured (report_note p.plan))
+texting (Some guesses) p =
+    let on = going_on p guesses in
+    task_of (recovering_text.port_text_meaning on) (noted_text on) (recovered_notes p.plan)
+
+-- and a value dump
+abbrev pub dumping : Option Bool → VcdPlan → TaskMeaning
+dumping None p = task_of (vcd_meaning p) nothing (captured (report_note p.plan))
+dumping (Some guesses) p =
+    let on = going_on p guesses in task_of (dump_meaning on) (noted_dump on) (recovered_notes p.plan)
 
 -- the writing of a script's capture
 abbrev pub rebuilding : RebuildPlan → TaskMeaning
@@ -152,13 +173,14 @@ rebuilding p = task_of (rebuild_meaning p) nothing (rebuild_notes p)
 
 -- what the task makes of the bytes of its input
 abbrev pub meaning_of : Task → TaskMeaning
-meaning_of (Show plan only window recover) = showing recover (record { plan = plan; only = only; window = window })
+meaning_of (Show plan only window recover) =
+    showing (guesses_of recover) (record { plan = plan; only = only; window = window })
 meaning_of (Split frames id) =
     let plan : SplitPlan = record { frames = frames; id = id } in
     task_of (split_meaning plan) nothing (captured (split_note plan))
-meaning_of (Text plan port recover) = texting recover (record { plan = plan; port = port })
-meaning_of (Vcd plan hz) = dumping (record { plan = plan; hz = hz })
-meaning_of (Check plan recover kinds) = checking recover kinds plan
+meaning_of (Text plan port recover) = texting (guesses_of recover) (record { plan = plan; port = port })
+meaning_of (Vcd plan hz recover) = dumping (guesses_of recover) (record { plan = plan; hz = hz })
+meaning_of (Check plan recover kinds) = checking (guesses_of recover) kinds plan
 meaning_of (Rebuild plan sync half) = rebuilding (straight plan sync half)
 meaning_of (Funnel plan sync half turns) = rebuilding (funnelled plan sync half turns)
 meaning_of (Exercise items lose) = reads_nothing (exercise_summary items lose)

@@ -10,7 +10,7 @@ ghost use Rattle.capture_run.specs.Run.{TaskNotes};
 use crate::status::Status;
 use capture_actions::{Check, KindCheck, PortText, Realign, Ring, Show, Split, Unring};
 use port_slip::Slipped;
-use recovery_listing::{RecoveringCheck, RecoveringShow, RecoveringText};
+use recovery_listing::{Account, Recovering};
 use script_rebuild::{Rebuild, ScriptFault};
 use source_events::Stop;
 use trace_stream::Action;
@@ -193,30 +193,11 @@ impl CommandAction for KindCheck {
     }
 }
 
-impl CommandAction for RecoveringShow {
+/// No fault ends the reading, and the lines of all are written, or were noted as the bytes came.
+impl<A: Account> CommandAction for Recovering<A> {
     ghost use Rattle.capture_run.specs.Actions.{recovered_notes};
 
-    ghost notes = { λ p. recovered_notes p.plan };
-
-    fn ending(&self) -> Ending {
-        Ending::of_recovery(self.is_faulty())
-    }
-}
-
-impl CommandAction for RecoveringText {
-    ghost use Rattle.capture_run.specs.Actions.{recovered_notes};
-
-    ghost notes = { λ p. recovered_notes p.plan };
-
-    fn ending(&self) -> Ending {
-        Ending::of_recovery(self.is_faulty())
-    }
-}
-
-impl CommandAction for RecoveringCheck {
-    ghost use Rattle.capture_run.specs.Actions.{recovered_notes};
-
-    ghost notes = { recovered_notes };
+    ghost notes = { λ asked. recovered_notes (A.capture asked) };
 
     fn ending(&self) -> Ending {
         Ending::of_recovery(self.is_faulty())

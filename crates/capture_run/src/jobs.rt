@@ -1,11 +1,13 @@
 //! A job, done.
 
-ghost use Rattle.std.specs.Prelude.{◌≡◌, ◌+◌, ◌≤◌, [], codes, true, IfOk};
+ghost use Rattle.std.specs.Prelude.{◌≡◌, ◌+◌, ◌≤◌, ◌<◌, [], codes, true, IfOk};
+ghost use Rattle.std.specs.Option.{ForSome};
 ghost use Rattle.trace_io.specs.Causes.{Rose};
 ghost use Rattle.trace_stream.specs.Fresh.{IsFresh};
 ghost use Rattle.trace_stream.specs.declared.limits.TheConstants.{GREATEST_CAPTURE};
 ghost use Rattle.capture_words.specs.Jobs.{IsSoundTask};
-ghost use Rattle.capture_run.specs.Actions.{HasDone, checking, showing, summing, texting};
+ghost use Rattle.capture_words.specs.Values.{guesses_of};
+ghost use Rattle.capture_run.specs.Actions.{HasDone, checking, dumping, showing, summing, summing_on, texting};
 ghost use Rattle.source_events.specs.Plan.{is_sound};
 ghost use Rattle.trace_stream.specs.Told.{Notes};
 ghost use Rattle.capture_run.specs.Run.{HasRun, task_of, streams};
@@ -19,7 +21,9 @@ use capture_actions::{
     Unring,
 };
 use capture_words::{Job, Recover, Task};
-use recovery_listing::{RecoveringCheck, RecoveringShow, RecoveringText};
+use recovery_listing::{
+    GoingOn, RecoveringCheck, RecoveringKinds, RecoveringShow, RecoveringText, RecoveringVcd,
+};
 use script_rebuild::{Rebuild, RebuildPlan};
 use source_events::Plan;
 use std::alloc::{AllocError, Global};
@@ -108,7 +112,7 @@ fn run_opened<A: CommandAction + Drop, I: Source, O: Sink, N: Sink>(
     }
 }
 
-/// Lists a capture, up to its first fault or with all its faults.
+/// Lists a capture, up to its first fault or with all its faults, and with guesses or without.
 fn run_show<I: Source, O: Sink, N: Sink>(
     buffers: &mut Buffers,
     plan: ListPlan,
@@ -123,18 +127,18 @@ fn run_show<I: Source, O: Sink, N: Sink>(
     requires small { limit ≤ GREATEST_CAPTURE }
     ensures ran { let before = streams (I.left input.old) (O.held output.old) (N.held notes.old) (N.faults notes.old) in
         let after = streams (I.left input.new) (O.held output.new) (N.held notes.new) (N.faults notes.new) in
-        HasRun (showing recover plan) limit before after result }
+        HasRun (showing (guesses_of recover) plan) limit before after result }
     ensures one_empty_read { I.empty_reads input.new ≤ I.empty_reads input.old + 1 }
     ensures read_cause { result ≡ Status.ReadFault → Rose (I.faults input.old) (I.faults input.new) }
     ensures write_cause { result ≡ Status.WriteFault → Rose (O.faults output.old) (O.faults output.new) }
 {
-    match recover {
-        Recover::Off => {
+    match recover.guesses() {
+        None => {
             let mut action = Show::new(plan);
             run_action(buffers, &mut action, limit, input, output, notes)
         }
-        Recover::On => {
-            let mut action = RecoveringShow::new(plan);
+        Some(guesses) => {
+            let mut action = RecoveringShow::new(GoingOn { plan, guesses });
             run_action(buffers, &mut action, limit, input, output, notes)
         }
     }
@@ -157,18 +161,52 @@ fn run_text<I: Source, O: Sink, N: Sink>(
     requires small { limit ≤ GREATEST_CAPTURE }
     ensures ran { let before = streams (I.left input.old) (O.held output.old) (N.held notes.old) (N.faults notes.old) in
         let after = streams (I.left input.new) (O.held output.new) (N.held notes.new) (N.faults notes.new) in
-        HasRun (texting recover plan) limit before after result }
+        HasRun (texting (guesses_of recover) plan) limit before after result }
     ensures one_empty_read { I.empty_reads input.new ≤ I.empty_reads input.old + 1 }
     ensures read_cause { result ≡ Status.ReadFault → Rose (I.faults input.old) (I.faults input.new) }
     ensures write_cause { result ≡ Status.WriteFault → Rose (O.faults output.old) (O.faults output.new) }
 {
-    match recover {
-        Recover::Off => {
+    match recover.guesses() {
+        None => {
             let mut action = PortText::new(plan);
             run_action(buffers, &mut action, limit, input, output, notes)
         }
-        Recover::On => {
-            let opened = RecoveringText::open(alloc, plan);
+        Some(guesses) => {
+            let opened = RecoveringText::open(alloc, GoingOn { plan, guesses });
+            run_opened(buffers, opened, limit, input, output, notes)
+        }
+    }
+}
+
+/// Writes a value dump, up to the first fault of a capture, or to its end with the faults as notes.
+fn run_vcd<I: Source, O: Sink, N: Sink>(
+    alloc: Global,
+    buffers: &mut Buffers,
+    plan: VcdPlan,
+    recover: Recover,
+    limit: u64,
+    input: &mut I,
+    output: &mut O,
+    notes: &mut N,
+) -> Status
+    requires empty { (buffers.old.pending ≡ []) × (buffers.old.recent ≡ []) }
+    requires sound { is_sound plan.plan ≡ true }
+    requires clock { ForSome plan.hz (λ n. 0 < n) }
+    requires small { limit ≤ GREATEST_CAPTURE }
+    ensures ran { let before = streams (I.left input.old) (O.held output.old) (N.held notes.old) (N.faults notes.old) in
+        let after = streams (I.left input.new) (O.held output.new) (N.held notes.new) (N.faults notes.new) in
+        HasRun (dumping (guesses_of recover) plan) limit before after result }
+    ensures one_empty_read { I.empty_reads input.new ≤ I.empty_reads input.old + 1 }
+    ensures read_cause { result ≡ Status.ReadFault → Rose (I.faults input.old) (I.faults input.new) }
+    ensures write_cause { result ≡ Status.WriteFault → Rose (O.faults output.old) (O.faults output.new) }
+{
+    match recover.guesses() {
+        None => {
+            let mut action = Vcd::new(plan);
+            run_action(buffers, &mut action, limit, input, output, notes)
+        }
+        Some(guesses) => {
+            let opened = RecoveringVcd::open(alloc, GoingOn { plan, guesses });
             run_opened(buffers, opened, limit, input, output, notes)
         }
     }
@@ -203,6 +241,35 @@ fn run_summary<I: Source, O: Sink, N: Sink>(
     }
 }
 
+/// Counts what is in a capture, and all its faults, with or without the items of each kind.
+fn run_summary_on<I: Source, O: Sink, N: Sink>(
+    buffers: &mut Buffers,
+    plan: Plan,
+    kinds: bool,
+    limit: u64,
+    input: &mut I,
+    output: &mut O,
+    notes: &mut N,
+) -> Status
+    requires empty { (buffers.old.pending ≡ []) × (buffers.old.recent ≡ []) }
+    requires sound { is_sound plan ≡ true }
+    requires small { limit ≤ GREATEST_CAPTURE }
+    ensures ran { let before = streams (I.left input.old) (O.held output.old) (N.held notes.old) (N.faults notes.old) in
+        let after = streams (I.left input.new) (O.held output.new) (N.held notes.new) (N.faults notes.new) in
+        HasRun (summing_on kinds plan) limit before after result }
+    ensures one_empty_read { I.empty_reads input.new ≤ I.empty_reads input.old + 1 }
+    ensures read_cause { result ≡ Status.ReadFault → Rose (I.faults input.old) (I.faults input.new) }
+    ensures write_cause { result ≡ Status.WriteFault → Rose (O.faults output.old) (O.faults output.new) }
+{
+    if kinds {
+        let mut action = RecoveringKinds::new(plan);
+        run_action(buffers, &mut action, limit, input, output, notes)
+    } else {
+        let mut action = RecoveringCheck::new(plan);
+        run_action(buffers, &mut action, limit, input, output, notes)
+    }
+}
+
 /// Counts what is in a capture, up to its first fault or with all its faults.
 fn run_check<I: Source, O: Sink, N: Sink>(
     buffers: &mut Buffers,
@@ -219,17 +286,14 @@ fn run_check<I: Source, O: Sink, N: Sink>(
     requires small { limit ≤ GREATEST_CAPTURE }
     ensures ran { let before = streams (I.left input.old) (O.held output.old) (N.held notes.old) (N.faults notes.old) in
         let after = streams (I.left input.new) (O.held output.new) (N.held notes.new) (N.faults notes.new) in
-        HasRun (checking recover kinds plan) limit before after result }
+        HasRun (checking (guesses_of recover) kinds plan) limit before after result }
     ensures one_empty_read { I.empty_reads input.new ≤ I.empty_reads input.old + 1 }
     ensures read_cause { result ≡ Status.ReadFault → Rose (I.faults input.old) (I.faults input.new) }
     ensures write_cause { result ≡ Status.WriteFault → Rose (O.faults output.old) (O.faults output.new) }
 {
-    match recover {
-        Recover::Off => run_summary(buffers, plan, kinds, limit, input, output, notes),
-        Recover::On => {
-            let mut action = RecoveringCheck::new(plan);
-            run_action(buffers, &mut action, limit, input, output, notes)
-        }
+    match recover.guesses() {
+        None => run_summary(buffers, plan, kinds, limit, input, output, notes),
+        Some(_) => run_summary_on(buffers, plan, kinds, limit, input, output, notes),
     }
 }
 
@@ -266,6 +330,7 @@ pub fn run_job<I: Source, O: Sink, N: Sink>(
         return note_no_memory(notes);
     };
     let Job { task, limit } = job;
+    let buffers = &mut buffers;
     match task {
         Task::Show {
             plan,
@@ -274,11 +339,11 @@ pub fn run_job<I: Source, O: Sink, N: Sink>(
             recover,
         } => {
             let listing = ListPlan { plan, only, window };
-            run_show(&mut buffers, listing, recover, limit, input, output, notes)
+            run_show(buffers, listing, recover, limit, input, output, notes)
         }
         Task::Split { frames, id } => {
             let mut action = Split::new(SplitPlan { frames, id });
-            run_action(&mut buffers, &mut action, limit, input, output, notes)
+            run_action(buffers, &mut action, limit, input, output, notes)
         }
         Task::Text {
             plan,
@@ -286,41 +351,20 @@ pub fn run_job<I: Source, O: Sink, N: Sink>(
             recover,
         } => {
             let text = PortTextPlan { plan, port };
-            run_text(
-                alloc,
-                &mut buffers,
-                text,
-                recover,
-                limit,
-                input,
-                output,
-                notes,
-            )
+            run_text(alloc, buffers, text, recover, limit, input, output, notes)
         }
-        Task::Vcd { plan, hz } => {
-            let mut action = Vcd::new(VcdPlan { plan, hz });
-            run_action(&mut buffers, &mut action, limit, input, output, notes)
+        Task::Vcd { plan, hz, recover } => {
+            let dump = VcdPlan { plan, hz };
+            run_vcd(alloc, buffers, dump, recover, limit, input, output, notes)
         }
         Task::Check {
             plan,
             recover,
             kinds,
-        } => {
-            run_check(
-                &mut buffers,
-                plan,
-                recover,
-                kinds,
-                limit,
-                input,
-                output,
-                notes,
-            )
-        }
+        } => run_check(buffers, plan, recover, kinds, limit, input, output, notes),
         Task::Rebuild { plan, sync, half } => {
-            let script = script_plan(plan, sync, half, None);
-            let opened = Rebuild::through(alloc, script);
-            run_opened(&mut buffers, opened, limit, input, output, notes)
+            let opened = Rebuild::through(alloc, script_plan(plan, sync, half, None));
+            run_opened(buffers, opened, limit, input, output, notes)
         }
         Task::Funnel {
             plan,
@@ -328,23 +372,16 @@ pub fn run_job<I: Source, O: Sink, N: Sink>(
             half,
             turns,
         } => {
-            let script = script_plan(plan, sync, half, Some(turns));
-            let opened = Rebuild::through(alloc, script);
-            run_opened(&mut buffers, opened, limit, input, output, notes)
+            let opened = Rebuild::through(alloc, script_plan(plan, sync, half, Some(turns)));
+            run_opened(buffers, opened, limit, input, output, notes)
         }
         Task::Realign => {
-            run_action(
-                &mut buffers,
-                &mut Realign::new(),
-                limit,
-                input,
-                output,
-                notes,
-            )
+            let mut action = Realign::new();
+            run_action(buffers, &mut action, limit, input, output, notes)
         }
         Task::Ring { size } => {
             let opened = Ring::open(alloc, size);
-            run_opened(&mut buffers, opened, limit, input, output, notes)
+            run_opened(buffers, opened, limit, input, output, notes)
         }
         Task::Unring {
             size,
@@ -352,8 +389,8 @@ pub fn run_job<I: Source, O: Sink, N: Sink>(
             full,
         } => {
             let opened = Unring::open(alloc, size, pointer, full);
-            run_opened(&mut buffers, opened, size as u64, input, output, notes)
+            run_opened(buffers, opened, size as u64, input, output, notes)
         }
-        Task::Exercise { items, lose } => run_exercise(&mut buffers, items, lose, output, notes),
+        Task::Exercise { items, lose } => run_exercise(buffers, items, lose, output, notes),
     }
 }

@@ -92,7 +92,7 @@ task_with UnringName s = unring_with s.buffer.size s.buffer.pointer s.buffer.ful
 task_with TextName s =
     plan_of_one TextNeedsItm TextReadsOneSource s.plan.itm s.plan >>= (λ plan. Ok (Text plan s.port s.recover))
 task_with VcdName s =
-    plan_of_one VcdNeedsItm VcdReadsOneSource s.plan.itm s.plan >>= (λ plan. Ok (Vcd plan s.hz))
+    plan_of_one VcdNeedsItm VcdReadsOneSource s.plan.itm s.plan >>= (λ plan. Ok (Vcd plan s.hz s.recover))
 task_with FunnelName s =
     plan_with s.plan >>= (λ plan. turns_with s.turns >>= (λ turns. Ok (Funnel plan s.sync s.half turns)))
 
@@ -124,4 +124,4 @@ IsSoundTask (Ring size) = (16 ≤ size) × (size ≤ 2 ^ 24)
 IsSoundTask (Unring size pointer full) = (16 ≤ size) × (size ≤ 2 ^ 24) × (pointer < size)
 IsSoundTask (Text plan port recover) = IsOfOne plan × (port ≤ 31)
 IsSoundTask (Funnel plan sync half turns) = (is_sound plan ≡ true) × (half ≤ 8) × IsSoundTurns turns
-IsSoundTask (Vcd plan hz) = IsOfOne plan × ForSome hz (λ n. 0 < n)
+IsSoundTask (Vcd plan hz recover) = IsOfOne plan × ForSome hz (λ n. 0 < n)

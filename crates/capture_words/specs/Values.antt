@@ -28,7 +28,7 @@ use Rattle.capture_words.specs.declared.option.CommandOption.TheVariants.{Lose, 
 use Rattle.capture_words.specs.declared.option.CommandOption.TheVariants.{Recover as RecoverOption}
 use Rattle.capture_words.specs.declared.option.CommandOption.TheVariants.{Order as OrderOption, Hold, Depth, Hz, Kinds}
 use Rattle.capture_words.specs.declared.recover.Recover.{Recover}
-use Rattle.capture_words.specs.declared.recover.Recover.TheVariants.{Off, On}
+use Rattle.capture_words.specs.declared.recover.Recover.TheVariants.{Off, On, Near}
 use Rattle.capture_words.specs.declared.usage.UsageFault.{UsageFault}
 use Rattle.capture_words.specs.declared.usage.UsageFault.TheVariants.{UnknownAction, BadValue}
 use Rattle.capture_words.specs.declared.values.ActionName.{ActionName}
@@ -188,7 +188,16 @@ lose_in = number_given Lose 0 0 1000000
 -- whether reading goes on after a fault; it does not if nothing else is said
 abbrev pub recover_named : Text → Option Recover
 recover_named text =
-    if bytes_eq text (codes "off") then Some Off else if bytes_eq text (codes "on") then Some On else None
+    if bytes_eq text (codes "off") then Some Off
+    else if bytes_eq text (codes "on") then Some On
+    else if bytes_eq text (codes "near") then Some Near
+    else None
+
+-- where reading goes on after a fault, whether what a source that hunts may have said is told as a guess
+abbrev pub guesses_of : Recover → Option Bool
+guesses_of Off = None
+guesses_of On = Some false
+guesses_of Near = Some true
 
 abbrev pub recover_in : List Row → Result Recover UsageFault
 recover_in = option_in RecoverOption Off recover_named

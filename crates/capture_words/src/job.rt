@@ -49,9 +49,9 @@ pub enum Task {
     Check {
         /// How the capture is read.
         plan: Plan,
-        /// Whether the reading goes on after a fault.
+        /// Whether the reading goes on after a fault. There are no guesses in counts.
         recover: Recover,
-        /// Whether the items of each kind are counted. Where the reading goes on after a fault it makes no difference.
+        /// Whether the items of each kind are counted.
         kinds: bool,
     },
     /// The capture of a script.
@@ -93,6 +93,8 @@ pub enum Task {
         /// How many ticks of the local timestamps there are in a second, at least one; where it is absent a tick is a
         /// nanosecond.
         hz: Option<u64>,
+        /// Whether the dump goes on after a fault.
+        recover: Recover,
     },
     /// What software wrote to a stimulus port.
     Text {
@@ -276,6 +278,7 @@ fn task_with(name: ActionName, settings: Settings) -> Result<Task, UsageFault>
                 UsageFault::VcdReadsOneSource,
             )?,
             hz: settings.hz,
+            recover: settings.recover,
         }),
         ActionName::Funnel => Ok(Task::Funnel {
             plan: plan_with(settings.plan)?,

@@ -161,7 +161,8 @@ impl CommandOption {
                 "How many bytes exercise loses at the front: 0 (the default) to 1000000"
             }
             CommandOption::Recover => {
-                "Whether show, check and text go on after a fault, at the next synchronisation: off (the default) or on"
+                "Whether show, check, text and vcd go on after a fault, at the next synchronisation: off (the default), on, \
+                or near, which tells what a source may have said until then, too"
             }
             CommandOption::Size => {
                 "How many bytes the trace buffer of ring or unring has: 16 to 16777216"

@@ -22,7 +22,7 @@ ghost use Rattle.capture_words.specs.declared.option.CommandOption.TheVariants.{
 ghost use Rattle.capture_words.specs.declared.option.CommandOption.TheVariants.{Kinds as KindsOption};
 ghost use Rattle.capture_words.specs.declared.option.CommandOption.TheVariants.{Port as PortOption};
 ghost use Rattle.capture_words.specs.declared.option.CommandOption.TheVariants.{Recover as RecoverOption};
-ghost use Rattle.capture_words.specs.declared.recover.Recover.TheVariants.{Off, On};
+ghost use Rattle.capture_words.specs.declared.recover.Recover.TheVariants.{Off, On, Near};
 ghost use Rattle.capture_words.specs.declared.usage.UsageFault.TheVariants.{UnknownAction, BadValue, SplitNeedsId};
 ghost use Rattle.capture_words.specs.declared.usage.UsageFault.TheVariants.{MappedTwice, RingNeedsSize};
 ghost use Rattle.capture_words.specs.declared.usage.UsageFault.TheVariants.{UnringNeedsSize, PointerNotUnderSize};
@@ -110,13 +110,13 @@ pub fn asks()
         does (codes "show --recover on --only itm")
         (Show (planned FramesHunt PacketsHunt [] [] Msn) (Some (OfKind ItmKind ∷ [])) None On) 68719476736 ∷
         does (codes "--recover=off show") (Show (planned FramesHunt PacketsHunt [] [] Msn) None None Off) 68719476736 ∷
-        does (codes "check --recover=on") (Check (planned FramesHunt PacketsHunt [] [] Msn) On false) 68719476736 ∷
+        does (codes "check --recover=on --kinds=off") (Check (planned FramesHunt PacketsHunt [] [] Msn) On false) 68719476736 ∷
         does (codes "realign --recover on") Realign 68719476736 ∷ []) }
     ensures text { AllAnswered (
         does (codes "text --itm 1") (Text (planned FramesHunt PacketsHunt (1 ∷ []) [] Msn) 0 Off) 68719476736 ∷
         does (codes "text --itm 111 --port 31 --frames bare --packets aligned --limit 5 --stp 2,2,111")
         (Text (planned Bare PacketsAligned (111 ∷ []) [] Msn) 31 Off) 5 ∷
-        does (codes "text --recover on --itm 1") (Text (planned FramesHunt PacketsHunt (1 ∷ []) [] Msn) 0 On) 68719476736 ∷
+        does (codes "text --recover near --itm 1") (Text (planned FramesHunt PacketsHunt (1 ∷ []) [] Msn) 0 Near) 68719476736 ∷
         does (codes "show --port 5") (Show (planned FramesHunt PacketsHunt [] [] Msn) None None Off) 68719476736 ∷ []) }
     ensures funnel { AllAnswered (
         does (codes "funnel --order 126")
@@ -129,9 +129,9 @@ pub fn asks()
         does (codes "rebuild --order 1,1 --hold 2 --depth 3")
         (Rebuild (planned FramesHunt PacketsHunt [] [] Msn) 64 0) 68719476736 ∷ []) }
     ensures vcd { AllAnswered (
-        does (codes "vcd --itm 1") (Vcd (planned FramesHunt PacketsHunt (1 ∷ []) [] Msn) None) 68719476736 ∷
-        does (codes "vcd --itm 111 --hz 1000000000000 --frames bare --limit 5 --stp 2,2")
-        (Vcd (planned Bare PacketsHunt (111 ∷ []) [] Msn) (Some 1000000000000)) 5 ∷
+        does (codes "vcd --itm 1") (Vcd (planned FramesHunt PacketsHunt (1 ∷ []) [] Msn) None Off) 68719476736 ∷
+        does (codes "vcd --itm 111 --hz 1000000000000 --frames bare --limit 5 --stp 2,2 --recover near")
+        (Vcd (planned Bare PacketsHunt (111 ∷ []) [] Msn) (Some 1000000000000) Near) 5 ∷
         does (codes "realign --hz 1") Realign 68719476736 ∷ []) }
     ensures split { AllAnswered (
         does (codes "split --id 5") (Split FramesHunt 5) 68719476736 ∷
@@ -146,8 +146,8 @@ pub fn asks()
         does (codes "--frames=bare --limit=65536 check --id 0 --only port=7 --packets aligned")
         (Check (planned Bare PacketsAligned [] [] Msn) Off false) 65536 ∷
         does (codes "check --kinds on") (Check (planned FramesHunt PacketsHunt [] [] Msn) Off true) 68719476736 ∷
-        does (codes "--kinds=off check --recover on")
-        (Check (planned FramesHunt PacketsHunt [] [] Msn) On false) 68719476736 ∷
+        does (codes "--kinds=on check --recover near")
+        (Check (planned FramesHunt PacketsHunt [] [] Msn) Near true) 68719476736 ∷
         does (codes "check --stp 5 --stp-order lsn")
         (Check (planned FramesHunt PacketsHunt [] (5 ∷ []) Lsn) Off false) 68719476736 ∷ []) }
     ensures several { AllAnswered (

@@ -5,7 +5,7 @@ ghost use Rattle.source_events.specs.declared.event.Event.{Event};
 ghost use Rattle.source_events.specs.declared.packet.Packet.{Packet};
 ghost use Rattle.item_tap.specs.Choices.{holds};
 ghost use Rattle.item_tap.specs.Seen.{HasSeen, bounds_of};
-ghost use Rattle.item_tap.specs.Windows.{passes};
+ghost use Rattle.item_tap.specs.Windows.{is_open_after, passes};
 
 use crate::bounds::Bounds;
 use crate::choice::Choice;
@@ -38,6 +38,15 @@ impl<R: Rule, F: Test, Q: Rule, G: Test> Window<R, F, Q, G> {
             last,
             is_open: false,
         }
+    }
+
+    /// It is open after what it saw.
+    #[inline]
+    pub fn is_open(&self) -> bool
+        ensures { (es : List (Event Packet)) → HasSeen R.holds Q.holds self.now es →
+            result ≡ is_open_after (R.holds self.now.first) (Q.holds self.now.last) es }
+    {
+        self.is_open
     }
 
     /// Takes the next event, and answers whether it passes: where the window is open, or opens with it. The event that

@@ -4,7 +4,7 @@ use crate::same::same;
 use arrayvec::ArrayVec;
 use frame_grammar::frame::cells_of;
 use frame_grammar::plain::plain_frame;
-use frame_writer::{FrameWriter, SureWriter};
+use frame_writer::FrameWriter;
 use std::process::Abort;
 use trace_values::{COUNT_ROOM, SourceId};
 
@@ -118,75 +118,6 @@ impl<'a> Case<'a> {
     }
 }
 
-// Writes these bytes, which must give this capture.
-fn expect(
-    rt: &impl Abort,
-    every: u32,
-    halves: u8,
-    bytes: &[(u8, u8)],
-    capture: &[u8],
-    frames: u64,
-) {
-    assert!(rt; halves <= 8);
-    let mut writer = FrameWriter::new(every, halves);
-    let mut written = ArrayVec::<u8, 264>::new();
-    for &(number, byte) in bytes {
-        if let Some(id) = SourceId::new(number) {
-            assert!(rt; id.number() > 0 && writer.frames() < COUNT_ROOM);
-            let mut out = ArrayVec::new();
-            writer.put(id, byte, &mut out);
-            assert!(rt; written.try_extend_from_slice(out.as_slice()).is_ok());
-        }
-    }
-    let mut out = ArrayVec::new();
-    same(
-        rt,
-        &"writer.finish(&mut out)",
-        &writer.finish(&mut out),
-        &frames,
-    );
-    assert!(rt; written.try_extend_from_slice(out.as_slice()).is_ok());
-    same(rt, &"written.as_slice()", &written.as_slice(), &capture);
-    let mut case = Case::new(every, halves, bytes);
-    same(rt, &"case.run(rt)", &case.run(rt), &frames);
-}
-
-#[test]
-fn writes_worked_captures(rt: HostRuntime) {
-    expect(&rt, 1, 8, &[], b"", 0);
-
-    let mut bytes = [(16, 0); 14];
-    for i in 0..13 {
-        bytes[i] = (16, i as u8 + 1);
-    }
-    bytes[13] = (17, 0xAA);
-    let frames =
-        b"\x21\x01\x02\x03\x04\x05\x06\x07\x08\x09\x0a\x0b\x0c\x0d\x23\0\x01\xaa\0\0\0\0\0\0\0\0\0\0\0\0\0\x01";
-    expect(&rt, 0, 0, &bytes, frames, 2);
-
-    let bytes = [
-        (1, 0),
-        (1, 0),
-        (1, 0),
-        (1, 0),
-        (1, 0),
-        (1, 0x80),
-        (1, 1),
-        (1, 0x41),
-    ];
-    let frame = b"\xff\xff\xff\x7f\x03\0\0\0\0\0\x80\x01\x01\x41\0\0\0\0\0\x10";
-    expect(&rt, 64, 0, &bytes, frame, 1);
-    let frame =
-        b"\xff\xff\xff\x7f\x03\0\xff\x7f\0\0\xff\x7f\0\0\xff\x7f\x80\x01\xff\x7f\x01\x41\xff\x7f\0\0\xff\x7f\0\0\xff\x7f\0\x10";
-    expect(&rt, 64, 1, &bytes, frame, 1);
-
-    // Synchronised before each frame, a source is named again in byte 0.
-    let bytes = [(2, 0x55); 15];
-    let frames =
-        b"\xff\xff\xff\x7f\x05\x55\x54\x55\x54\x55\x54\x55\x54\x55\x54\x55\x54\x55\x54\xfe\xff\xff\xff\x7f\x05\x55\x01\0\0\0\0\0\0\0\0\0\0\0\0\0";
-    expect(&rt, 1, 0, &bytes, frames, 2);
-}
-
 // Bytes of source 1, but for that at an index.
 fn bytes_but(index: usize, tagged: (u8, u8)) -> [(u8, u8); 32] {
     let mut bytes = [(1, 0xF1); 32];
@@ -252,54 +183,4 @@ fn reads_back_any_bytes(rt: HostRuntime) {
             }
         }
     }
-}
-
-// Puts bytes, each of its source, and checks what becomes sure with each of them, and the rest.
-fn check_sure(rt: &impl Abort, bytes: &[(u8, u8)], sizes: &[usize], expected: &[u8]) {
-    let mut writer = SureWriter::new(0, 0);
-    let mut written: ArrayVec<u8, 64> = ArrayVec::new();
-    for (k, (number, byte)) in bytes.iter().enumerate() {
-        let id = SourceId::new(*number).unwrap_or_default();
-        assert!(rt; id.number() > 0 && writer.frames() < COUNT_ROOM);
-        let mut out = ArrayVec::new();
-        writer.put(id, *byte, &mut out);
-        same(rt, &k, &Some(&out.len()), &sizes.get(k));
-        assert!(rt; written.try_extend_from_slice(out.as_slice()).is_ok());
-    }
-    let mut out = ArrayVec::new();
-    writer.copied().rest(&mut out);
-    assert!(rt; written.try_extend_from_slice(out.as_slice()).is_ok());
-    same(rt, &"written.as_slice()", &written.as_slice(), &expected);
-}
-
-// A frame is sure once a byte is put after it, and not before: the capture of fourteen bytes of source 1 is one whole
-// frame, which is kept back.
-#[test]
-fn frames_become_sure(rt: HostRuntime) {
-    check_sure(&rt, &[], &[], &[]);
-    let full = [0x03, 1, 2, 3, 4, 5, 6, 7, 8, 9, 10, 11, 12, 13, 14, 0x00];
-    let bytes: [(u8, u8); 15] = [
-        (1, 1),
-        (1, 2),
-        (1, 3),
-        (1, 4),
-        (1, 5),
-        (1, 6),
-        (1, 7),
-        (1, 8),
-        (1, 9),
-        (1, 10),
-        (1, 11),
-        (1, 12),
-        (1, 13),
-        (1, 14),
-        (1, 15),
-    ];
-    let mut sizes = [0; 15];
-    check_sure(&rt, &bytes[..14], &sizes, &full);
-    sizes[14] = 16;
-    let mut both = [0; 32];
-    both[..16].copy_from_slice(&full);
-    both[16..].copy_from_slice(&[0x01, 0x0F, 0, 0, 0, 0, 0, 0, 0, 0, 0, 0, 0, 0, 0, 0x01]);
-    check_sure(&rt, &bytes, &sizes, &both);
 }

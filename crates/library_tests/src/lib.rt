@@ -7,10 +7,6 @@ mod buffer_ring_tests;
 #[cfg(test)]
 mod decimal_words_tests;
 #[cfg(test)]
-mod deformatter_tests;
-#[cfg(test)]
-mod dwt_packets_tests;
-#[cfg(test)]
 mod exercise_source_tests;
 #[cfg(test)]
 mod frame_grammar_tests;
@@ -39,11 +35,7 @@ mod source_counts_tests;
 #[cfg(test)]
 mod source_merge_tests;
 #[cfg(test)]
-mod stp_codec_tests;
-#[cfg(test)]
 mod stp_encoder_tests;
-#[cfg(test)]
-mod stp_grammar_tests;
 #[cfg(test)]
 mod trace_clock_tests;
 #[cfg(test)]

@@ -1,11 +1,10 @@
-//! What is written, against bytes by hand and read again.
+//! What is written, read again.
 
 ghost use Rattle.std.specs.Prelude.{◌<◌};
 
 use crate::same::same;
 use arrayvec::ArrayVec;
 use std::process::Abort;
-use std::test::Fail;
 use stp_codec::StpDecoder;
 use stp_encoder::{StpEncoder, Unfit};
 use stp_grammar::item::{Place, Stamp, StpItem};
@@ -17,13 +16,6 @@ fn place(master: u16, channel: u16) -> Place {
     Place {
         master: Some(master),
         channel: Some(channel),
-    }
-}
-
-fn flag(stamp: Stamp) -> StpItem {
-    StpItem::Flag {
-        place: place(0, 0),
-        stamp,
     }
 }
 
@@ -47,158 +39,6 @@ fn put(
     assert!(rt; is_proper_stp(item));
     assert!(rt; out.is_empty());
     encoder.put(item, out)
-}
-
-/// These items are written as these bytes.
-fn check_bytes(rt: &impl Abort, order: Order, items: &[StpItem], bytes: &[u8]) {
-    let mut encoder = StpEncoder::new(order);
-    let mut written = ArrayVec::<u8, 200>::new();
-    for item in items {
-        let mut out = ArrayVec::new();
-        same(
-            rt,
-            &"put(rt, &mut encoder, item, &mut out)",
-            &put(rt, &mut encoder, item, &mut out),
-            &Ok(()),
-        );
-        assert!(rt; written.try_extend_from_slice(out.as_slice()).is_ok());
-    }
-    let mut out = ArrayVec::new();
-    encoder.finish(&mut out);
-    assert!(rt; written.try_extend_from_slice(out.as_slice()).is_ok());
-    same(rt, &items, &written.as_slice(), &bytes);
-}
-
-#[test]
-fn writes_bytes(rt: HostRuntime) {
-    let start = [StpItem::Async, StpItem::Version(3)];
-    let stamped = byte(place(1, 0), 0x42, Stamp::Natural(5));
-    let plain = byte(place(0, 0), 0x41, Stamp::None);
-    check_bytes(
-        &rt,
-        Order::Msn,
-        &[start[0], start[1], stamped],
-        b"\xff\xff\xff\xff\xff\xff\xff\xff\xff\xff\x0f\x0f\x30\x01\xf1\x44\x12\x05",
-    );
-    check_bytes(
-        &rt,
-        Order::Msn,
-        &[start[0], start[1], plain],
-        b"\xff\xff\xff\xff\xff\xff\xff\xff\xff\xff\x0f\x0f\x30\x44\x01",
-    );
-    let other = byte(place(0, 0), 0x14, Stamp::None);
-    check_bytes(
-        &rt,
-        Order::Lsn,
-        &[start[0], start[1], other],
-        b"\xff\xff\xff\xff\xff\xff\xff\xff\xff\xff\x0f\x0f\x30\x44\x01",
-    );
-    // The last word is a whole one, the same again, and one with another low nibble.
-    check_bytes(
-        &rt,
-        Order::Msn,
-        &[
-            StpItem::Version(4),
-            flag(Stamp::Gray(u64::MAX)),
-            flag(Stamp::Gray(u64::MAX)),
-            flag(Stamp::Gray(u64::MAX - 1)),
-        ],
-        b"\x0f\x40\xee\x08\0\0\0\0\0\0\0\x0e\x1e\x01",
-    );
-    check_bytes(
-        &rt,
-        Order::Msn,
-        &[StpItem::Async, StpItem::Version(4)],
-        b"\xff\xff\xff\xff\xff\xff\xff\xff\xff\xff\x0f\x0f\x40",
-    );
-    check_bytes(&rt, Order::Msn, &[], b"");
-}
-
-/// Where an item is unfit nothing is written, and the next one is as if it had not been put.
-#[test]
-fn refuses_what_does_not_fit(rt: HostRuntime) -> Result<(), Fail> {
-    let mut encoder = StpEncoder::new(Order::Msn);
-    let mut out = ArrayVec::new();
-    let nowhere = Place {
-        master: Some(1),
-        channel: None,
-    };
-    let absent = byte(nowhere, 0, Stamp::None);
-    same(
-        &rt,
-        &"put(&rt, &mut encoder, &absent, &mut out)",
-        &put(&rt, &mut encoder, &absent, &mut out),
-        &Err(Unfit { version: None }),
-    );
-    same(
-        &rt,
-        &"put(&rt, &mut encoder, &StpItem::Version(3), &mut out)",
-        &put(&rt, &mut encoder, &StpItem::Version(3), &mut out),
-        &Ok(()),
-    );
-    same(
-        &rt,
-        &"out.as_slice()",
-        &out.as_slice(),
-        &([0x0F, 0x30].as_slice()),
-    );
-    same(&rt, &"encoder.version()", &encoder.version(), &Some(3));
-
-    let mut out = ArrayVec::new();
-    let unfit = Unfit { version: Some(3) };
-    same(
-        &rt,
-        &"put(&rt, &mut encoder, &flag(Stamp::Gray(5)), &mut out)",
-        &put(&rt, &mut encoder, &flag(Stamp::Gray(5)), &mut out),
-        &Err(unfit),
-    );
-    assert!(rt; out.is_empty());
-    same(
-        &rt,
-        &"put(&rt, &mut encoder, &flag(Stamp::Natural(5)), &mut out)",
-        &put(&rt, &mut encoder, &flag(Stamp::Natural(5)), &mut out),
-        &Ok(()),
-    );
-    same(
-        &rt,
-        &"out.as_slice()",
-        &out.as_slice(),
-        &([0x1E].as_slice()),
-    );
-    let mut end = ArrayVec::new();
-    encoder.finish(&mut end);
-    same(
-        &rt,
-        &"end.as_slice()",
-        &end.as_slice(),
-        &([0x05].as_slice()),
-    );
-
-    let rows: [(Stamp, bool); 4] = [
-        (Stamp::None, false),
-        (Stamp::Natural(0), true),
-        (Stamp::Gray(0), false),
-        (Stamp::Raw { size: 0, word: 0 }, false),
-    ];
-    for (stamp, fits) in rows {
-        let mut copy = encoder;
-        let mut out = ArrayVec::new();
-        let item = StpItem::NullStamp { stamp };
-        same(
-            &rt,
-            &stamp,
-            &put(&rt, &mut copy, &item, &mut out).is_ok(),
-            &fits,
-        );
-    }
-    let text = format!(in rt.alloc(); "{unfit}")?;
-    same(
-        &rt,
-        &"text.as_str()",
-        &text.as_str(),
-        &"the item does not fit what was written before it",
-    );
-    Ok(())
 }
 
 /// An encoder, a decoder of what it writes, and the item that has not come back, since its last nibble is kept.

@@ -80,7 +80,7 @@ few_from ItmKind half at byte = omega arith
 few_from StpKind zero at byte = omega arith
 few_from StpKind (suc half) at byte = omega arith
 
-all_before : (at : ℕ) (u w : List Placed) → AllBefore at u → AllBefore at w → AllBefore at (u ++ w)
+pub all_before : (at : ℕ) (u w : List Placed) → AllBefore at u → AllBefore at w → AllBefore at (u ++ w)
 all_before at [] w a b = b
 all_before at (x ∷ u) w a b = (a.0, all_before at u w a.1 b)
 

@@ -7,3 +7,4 @@ pub mod OnceTaken
 pub mod FoundPackets
 pub mod ReadingOn
 pub mod Guessing
+pub mod Mapping

@@ -25,7 +25,7 @@ use Rattle.stretch_readings.proofs.Feeding.{longer}
 use Rattle.stp_grammar.specs.declared.packet.Order.TheVariants.{Msn}
 use Rattle.stp_codec.specs.Decoder as stp
 use Rattle.recovering_machines.specs.Found.{PassesCells, TakesCells, ended, heard_in, kept}
-use Rattle.recovering_machines.specs.Run.{units_in, with_run}
+use Rattle.recovering_machines.specs.Run.{GoesOn, units_in, with_run}
 use Rattle.recovering_machines.specs.Source.{Stands, heard_by}
 use Rattle.recovering_machines.specs.Units.{AreWhole, units_of}
 use Rattle.recovering_machines.specs.declared.source.RecoveringSource.{RecoveringSource}
@@ -123,6 +123,9 @@ module _ (old new : RecoveringSource) (same_past : new.past ≡ old.past) (same_
 
         goes : with_run old r cells ≡ longer reads r w
         goes = all_go reads (settles_on old.machine) w r sound
+
+        pub goes_on : GoesOn old r cells
+        goes_on = record { list = goes; more = kept packets; given = given }
 
         now_all : r.now.units ++ w ≡ units_of (kind_on new.machine) (own.bytes ++ placed_run cells)
         now_all = all ∙ ap (λ (z : SourceKind). units_of z (own.bytes ++ placed_run cells)) (sym alike.kind)

@@ -23,11 +23,11 @@ use Rattle.stretch_readings.specs.Steps.{said_by}
 use Rattle.stretch_readings.proofs.StretchLaws.{from_append}
 use Rattle.source_events.specs.Runs.{bytes_of}
 use Rattle.recovering_machines.specs.Found.{TakesCells, ended, heard_in}
-use Rattle.recovering_machines.specs.Run.{TakesRun, between, units_in, with_run}
+use Rattle.recovering_machines.specs.Run.{GoesOn, TakesRun, between, units_in, with_run}
 use Rattle.recovering_machines.specs.Source.{Stands, heard_by, kind_of, reads_of, total_of, with_byte}
 use Rattle.recovering_machines.specs.declared.source.RecoveringSource.{RecoveringSource}
 
-run_more : (s : RecoveringSource) (r : Stretches) (xs ys : List Cell) →
+pub run_more : (s : RecoveringSource) (r : Stretches) (xs ys : List Cell) →
     with_run s r (xs ++ ys) ≡ fed_from (reads_of s) from_fault (with_run s r xs) (map One (units_in (kind_of s) ys))
 run_more s r xs ys =
     ap (λ w. fed_from (reads_of s) from_fault r (map One w))
@@ -35,6 +35,18 @@ run_more s r xs ys =
     ∙ ap (λ l. fed_from (reads_of s) from_fault r l)
     (map-append One (units_in (kind_of s) xs) (units_in (kind_of s) ys))
     ∙ from_append (reads_of s) from_fault (map One (units_in (kind_of s) xs)) (map One (units_in (kind_of s) ys)) r
+
+-- with no cell a stretch goes on
+pub goes_none : (s : RecoveringSource) (r : Stretches) → GoesOn s r []
+goes_none s r = record {
+  list = ap (λ (u : List Placed). record {
+    past = r.past;
+    now = record { hunts = r.now.hunts; count = r.now.count; units = u };
+  }) (sym (append-nil r.now.units));
+  more = [];
+  given = ap (λ (u : List Placed). (reads_of s r.now.hunts u).given) (append-nil r.now.units)
+      ∙ sym (append-nil (reads_of s r.now.hunts r.now.units).given);
+}
 
 -- what is said, and then more
 pub lifted_append : (a b : List (Said (Heard Packet) × Place)) → lifted (a ++ b) ≡ lifted a ++ lifted b

@@ -5,4 +5,5 @@ pub mod Hearing
 pub mod Run
 pub mod Found
 pub mod Guess
+pub mod Mapped
 pub mod Rows

@@ -26,6 +26,20 @@ units_in kind cells = flat_map (λ c. units_at kind c.at c.byte) cells
 abbrev pub with_run : RecoveringSource → Stretches → List Cell → Stretches
 with_run s r cells = fed_from (reads_of s) from_fault r (map One (units_in (kind_of s) cells))
 
+-- There is no fault in these cells: the last stretch goes on with their units, and gives this more.
+pub record GoesOn (s : RecoveringSource) (r : Stretches) (cells : List Cell) : Type 0 where
+  pub list : with_run s r cells ≡ record {
+    past = r.past;
+    now = record {
+      hunts = r.now.hunts;
+      count = r.now.count;
+      units = r.now.units ++ units_in (kind_of s) cells;
+    };
+  }
+  pub more : List (Said Packet × Place)
+  pub given : (reads_of s r.now.hunts (r.now.units ++ units_in (kind_of s) cells)).given
+      ≡ (reads_of s r.now.hunts r.now.units).given ++ more
+
 -- These cells were taken, and what they say was given, as events of this source.
 pub record TakesRun {S : Type 0} (gets : S → List (Event (Heard Packet)) → S → Type 0) (room : S → ℕ) (id : ℕ)
     (cells : List Cell) (old new : RecoveringSource) (before after : S) : Type 0 where

@@ -19,7 +19,12 @@ use stretch_readings::Heard;
 use trace_values::{SourceId, Step};
 
 /// What a source says at this half of the byte at this offset.
-fn event_at(id: SourceId, at: u64, half: u8, what: What<Heard<Packet>>) -> Event<Heard<Packet>>
+pub(crate) fn event_at(
+    id: SourceId,
+    at: u64,
+    half: u8,
+    what: What<Heard<Packet>>,
+) -> Event<Heard<Packet>>
     ensures { result ≡ record { at = at; half = half; source = Some id; what = what } }
 {
     Event {
@@ -31,7 +36,13 @@ fn event_at(id: SourceId, at: u64, half: u8, what: What<Heard<Packet>>) -> Event
 }
 
 /// Gives the events of an answer to the byte at this offset.
-fn hear_step<V: Hearer>(id: SourceId, at: u64, step: Step<Packet>, out: &mut V, to: &mut V::To)
+pub(crate) fn hear_step<V: Hearer>(
+    id: SourceId,
+    at: u64,
+    step: Step<Packet>,
+    out: &mut V,
+    to: &mut V::To,
+)
     requires fits { StepFits PacketFits step }
     requires room { 2 ≤ V.room (out.old, to.old) }
     ensures received { V.gets (out.old, to.old) (told (Some id) (lifted (said_by at step))) (out.new, to.new) }

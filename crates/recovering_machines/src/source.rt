@@ -88,7 +88,7 @@ impl RecoveringSource {
     ghost use Rattle.stretch_readings.specs.Steps.{said_by};
     ghost use Rattle.recovering_machines.specs.Source.{Answers, Stands, heard_by, kind_of, reads_of, total_of};
     ghost use Rattle.recovering_machines.specs.Found.{TakesCells, ended, heard_in};
-    ghost use Rattle.recovering_machines.specs.Run.{TakesRun, between};
+    ghost use Rattle.recovering_machines.specs.Run.{GoesOn, TakesRun, between};
     ghost use Rattle.recovering_machines.specs.Source.{with_byte};
 
     /// One of a source of this kind before its first byte. The order is that of the nibbles of an STP source's numbers.
@@ -173,6 +173,8 @@ impl RecoveringSource {
         ensures within { (from ≤ result) × (result ≤ length (R.cells run.now)) }
         ensures takes { TakesRun V.gets V.room id (between from result (R.cells run.now)) self.old self.new
             (out.old, to.old) (out.new, to.new) }
+        ensures goes { (r : Stretches) → Stands self.old r →
+            GoesOn self.old r (between from result (R.cells run.now)) }
     {
         if self.whole {
             take_found(&mut self.machine, id, run, from, out, to)

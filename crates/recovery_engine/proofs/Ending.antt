@@ -21,9 +21,9 @@ use Rattle.source_merge.specs.declared.slot.Slot.{Slot}
 use Rattle.stretch_readings.specs.Stretches.{Stretch, Stretches, heard_of, from_fault, lost_in, skipped_in}
 use Rattle.recovering_machines.specs.Port as ports
 use Rattle.recovering_machines.specs.Port.{items_by, from_halfword}
-use Rattle.recovering_machines.specs.Source.{heard_by, kind_of, total_of}
+use Rattle.recovering_machines.specs.Mapped.{heard_by, kind_of, total_of}
 use Rattle.recovering_machines.specs.declared.port.RecoveringPort.{RecoveringPort}
-use Rattle.recovering_machines.specs.declared.source.RecoveringSource.{RecoveringSource}
+use Rattle.recovering_machines.specs.declared.mapped.MappedSource.{MappedSource}
 use Rattle.recovery_report.specs.Port.{PortStretch, of_stretches, port_stretches, recovered, skipped_of, stretch_of}
 use Rattle.recovery_report.specs.Report.{Part, mode_by, source_tails, stretches_of, tail_by, tail_of}
 use Rattle.recovery_engine.specs.Ends.{EndsAs, end_of}
@@ -74,13 +74,13 @@ same_tail : (x : ℕ) (kind : SourceKind) (m n : PortMode) (s k t v : ℕ) → m
     let b : SourceTail = record { id = x; kind = kind; mode = n; skipped = k; tail = v } in a ≡ b)
 same_tail x kind m n s k t v e f g = cc
 
-pub source_ends : (plan : Plan) (parts : List Part) (x : ℕ) (s : RecoveringSource) (kind : SourceKind) (m : PortMode)
-    (skipped tail : ℕ) → IsSource plan parts x s → kind_of s ≡ kind →
+pub source_ends : (guesses : Bool) (plan : Plan) (parts : List Part) (x : ℕ) (s : MappedSource) (kind : SourceKind) (m : PortMode)
+    (skipped tail : ℕ) → IsSource guesses plan parts x s → kind_of s ≡ kind →
     (let r = stretches_of plan (kind_of s) x parts in
     m ≡ mode_by r.now.hunts (heard_by s r).locked → skipped ≡ (heard_by s r).skipped → tail ≡ (heard_by s r).held →
     (let a : SourceTail = record { id = x; kind = kind; mode = m; skipped = skipped; tail = tail } in
     a ≡ tail_of plan parts x kind))
-source_ends plan parts x s kind m skipped tail k e f g h =
+source_ends guesses plan parts x s kind m skipped tail k e f g h =
     let r = stretches_of plan (kind_of s) x parts in
     subst (λ (z : SourceKind). (let a : SourceTail = record {
       id = x;
@@ -103,29 +103,29 @@ ends_at x kind s rest b t e k =
 
 -- the tail of a number, by the slots
 module _ (plan : Plan) (x : ℕ) (kind : SourceKind) (named : plans.kind_of plan x ≡ Some kind) where
-  pub there : (o : Option RecoveringSource) (t : Option SourceTail) → EndsAs x kind o t →
+  pub there : (o : Option MappedSource) (t : Option SourceTail) → EndsAs x kind o t →
       IfSome t (λ tail. is_some o ≡ true)
   there None None e = tt
   there None (Some t) e = (let k : Some t ≡ None = e in cc)
   there (Some s) None e = tt
   there (Some s) (Some t) e = refl
 
-  pub tail_is : (parts : List Part) (o : Option RecoveringSource) (t : Option SourceTail) → EndsAs x kind o t →
-      StandsAt plan parts x o → all_of t ≡ tail_by plan parts x (plans.kind_of plan x)
-  tail_is parts None t e k = (let q : None ≡ Some kind = sym k ∙ named in cc)
-  tail_is parts (Some s) t e k =
+  pub tail_is : (guesses : Bool) (parts : List Part) (o : Option MappedSource) (t : Option SourceTail) → EndsAs x kind o t →
+      StandsAt guesses plan parts x o → all_of t ≡ tail_by plan parts x (plans.kind_of plan x)
+  tail_is guesses parts None t e k = (let q : None ≡ Some kind = sym k ∙ named in cc)
+  tail_is guesses parts (Some s) t e k =
       let q : Some (kind_of s) ≡ Some kind = sym k.kind ∙ named in
       let same : kind_of s ≡ kind = cc in
-      ap (λ (z : Option SourceTail). all_of z) (e plan parts k same) ∙ ap (tail_by plan parts x) (sym named)
+      ap (λ (z : Option SourceTail). all_of z) (e guesses plan parts k same) ∙ ap (tail_by plan parts x) (sym named)
 
 -- as slots of the strict engine, of whose numbers it is known how many there are
 abbrev pub as_slots : List RecoveringSlot → List Slot
-as_slots slots = map (λ s. record { id = s.id; machine = s.source.machine }) slots
+as_slots slots = map (λ s. record { id = s.id; machine = s.source.sure.machine }) slots
 
 pub length-as_slots : (slots : List RecoveringSlot) → length (as_slots slots) ≡ length slots
 length-as_slots slots = length-map slots one where
   one : RecoveringSlot → Slot
-  one s = record { id = s.id; machine = s.source.machine }
+  one s = record { id = s.id; machine = s.source.sure.machine }
 
 pub any_at : (x : ℕ) (slots : List RecoveringSlot) → is_some (source_at slots x) ≡ true →
     list_any (λ (s : Slot). s.id == x) (as_slots slots) ≡ true

@@ -1,6 +1,6 @@
 -- More bytes of the port.
 use Rattle.std.proofs.Common.{◌≡◌, ℕ, ◌+◌, List, [], ◌∷◌, ◌++◌, refl, sym, ◌∙◌, ap, subst}
-use Rattle.std.proofs.Common.{append-nil, append_assoc, arith, length, map, take, Some, ◌≤◌}
+use Rattle.std.proofs.Common.{append-nil, append_assoc, arith, length, map, take, Bool, Some, ◌≤◌}
 use Rattle.std.proofs.lemmas.Grind.{flat_map-append}
 use Rattle.std.proofs.lemmas.List.{length-take-le, map-append, take-take}
 use Rattle.trace_values.specs.declared.cell.Cell.{Cell}
@@ -12,19 +12,23 @@ use Rattle.deformatter.specs.declared.step.PortStep.TheVariants.{Quiet, Half, Fu
 use Rattle.deformatter.specs.declared.step.PortStep.TheVariants.{Fault as Faulty}
 use Rattle.deformatter.specs.Modes.{hunts}
 use Rattle.deformatter.specs.PortReading.{bare_cell}
+use Rattle.deformatter.specs.Rising.{BytesRise}
 use Rattle.source_events.specs.declared.event.Event.{Event}
 use Rattle.source_events.specs.declared.packet.Packet.{Packet}
 use Rattle.source_events.specs.declared.plan.Plan.{Plan}
 use Rattle.source_events.specs.Runs.{all_runs, runs_of}
 use Rattle.source_merge.specs.Piece.{cells_from}
+use Rattle.source_merge.proofs.Going.{rise_block}
 use Rattle.stretch_readings.specs.declared.heard.Heard.{Heard}
 use Rattle.stretch_readings.proofs.StretchLaws.{from_append}
 use Rattle.stretch_readings.specs.Stretches.{One, fed, fed_from, before}
 use Rattle.recovering_machines.specs.Port.{items_by, from_halfword, raised}
 use Rattle.recovery_report.specs.Port.{port_stretches, recovered}
-use Rattle.recovery_report.specs.Report.{Part, Run, Locks, parts_in, report, report_from}
+use Rattle.recovery_report.specs.Report.{Part, Run, Locks, parts_in, report_from_with, report_with}
 use Rattle.recovery_report.specs.Words.{AreOf, parts_by, singles}
-use Rattle.recovery_engine.specs.Engine.{Stands, plan_of}
+use Rattle.recovery_report.specs.Placing.{PartsBetween}
+use Rattle.recovery_report.proofs.Parting.{parts_placed}
+use Rattle.recovery_engine.specs.Engine.{Stands, count_of, guesses_of, plan_of}
 use Rattle.recovery_engine.specs.Front.{TakesFront}
 use Rattle.recovery_engine.specs.Slots.{StandFor}
 use Rattle.recovery_engine.specs.Taking.{Takes}
@@ -96,36 +100,48 @@ piece_bare at [] = refl
 piece_bare at (b ∷ bytes) =
     ap (λ (l : List Cell). record { at = at; id = Some 1; run = 0; byte = b } ∷ l) (piece_bare (at + 1) bytes)
 
--- what was taken is what the bytes add
-module _ {S : Type 0} (gets : S → List (Event (Heard Packet)) → S →
-    Type 0) (plan : Plan) (u w : List Placed) (more : List Part) (old new : List RecoveringSlot × S)
-    (e : parts_in (recovered plan.frames w) ≡ parts_in (recovered plan.frames u) ++ more) (t : Takes gets more old new)
-    (k : StandFor plan (parts_in (recovered plan.frames u)) old.0) where
-  pub stands_more : StandFor plan (parts_in (recovered plan.frames w)) new.0
-  stands_more = subst (λ l. StandFor plan l new.0) (sym e) (t.2 plan (parts_in (recovered plan.frames u)) k).list
+-- bytes that come next rise
+pub rises_more : (u : List Placed) (at n : ℕ) (bytes : List ℕ) → length bytes ≡ n → BytesRise 0 at u →
+    BytesRise 0 (at + n) (u ++ placed_from at bytes)
+rises_more u at n bytes e rise =
+    subst (λ (k : ℕ). BytesRise 0 (at + k) (u ++ placed_from at bytes)) e (rise_block u at bytes rise)
 
-  pub report_more : report plan w ≡ report plan u ++ t.0
-  report_more = ap (λ l. report_from plan [] l) e ∙ (t.2 plan (parts_in (recovered plan.frames u)) k).grew
+-- what was taken is what the bytes add
+module _ {S : Type 0} (gets : S → List (Event (Heard Packet)) → S → Type 0) (guesses : Bool) (plan : Plan)
+    (u w : List Placed) (more : List Part) (old new : List RecoveringSlot × S)
+    (e : parts_in (recovered plan.frames w) ≡ parts_in (recovered plan.frames u) ++ more) (t : Takes gets more old new)
+    (k : StandFor guesses plan (parts_in (recovered plan.frames u)) old.0) where
+  pub stands_more : StandFor guesses plan (parts_in (recovered plan.frames w)) new.0
+  stands_more = subst (λ l. StandFor guesses plan l new.0) (sym e)
+      (t.2 guesses plan (parts_in (recovered plan.frames u)) k).list
+
+  pub report_more : (at : ℕ) → BytesRise 0 at w → report_with guesses plan w ≡ report_with guesses plan u ++ t.0
+  report_more at rise =
+      ap (λ l. report_from_with guesses plan [] l) e
+      ∙ (t.2 guesses plan (parts_in (recovered plan.frames u)) k).grew at
+      (subst (PartsBetween 0 at) e (parts_placed plan.frames w 0 at rise))
 
 -- what was taken of a front of a piece was taken of the piece
-pub front_of : {S : Type 0} (gets : S → List (Event (Heard Packet)) → S → Type 0) (left : S → ℕ) (at : ℕ)
+pub front_of : {S : Type 0} (gets : S → List (Event (Heard Packet)) → S → Type 0) (left : S → ℕ)
     (piece front : List ℕ) (m n : ℕ) (old new : Recovery × S) → m ≤ length piece → front ≡ take m piece →
-    TakesFront gets left at front n old new → TakesFront gets left at piece n old new
-front_of gets left at piece front m n old new within e t =
+    TakesFront gets left front n old new → TakesFront gets left piece n old new
+front_of gets left piece front m n old new within e t =
     let size : length front ≡ m = ap length e ∙ length-take-le m piece within in
     let few = t.bytes.1 in
     let same : take n front ≡ take n piece =
     ap (take n) e ∙ take-take n m piece (omega (arith, size, few)) in
+    let at = count_of old.0 in
     record {
       bytes = (t.bytes.0, omega (arith, size, few, within));
       plan = t.plan;
+      guesses = t.guesses;
       count = t.count;
       list = λ u k. subst (λ (b : List ℕ). Stands new.0 (u ++ placed_from at b)) same (t.list u k);
       given = (
         t.given.0,
         t.given.1,
-        λ u k. subst (λ (b : List ℕ). report (plan_of old.0) (u ++ placed_from at b)
-            ≡ report (plan_of old.0) u ++ t.given.0) same (t.given.2 u k),
+        λ u k. subst (λ (b : List ℕ). report_with (guesses_of old.0) (plan_of old.0) (u ++ placed_from at b)
+            ≡ report_with (guesses_of old.0) (plan_of old.0) u ++ t.given.0) same (t.given.2 u k),
       );
       room = t.room;
     }

@@ -23,7 +23,7 @@ module _ {S : Type 0} (gets : S → List (Event (Heard Packet)) → S → Type 0
     pub size : length rest ≤ length cells
     pub takes : Takes gets (map Run done) first now
     pub len : length now.0 ≡ length first.0
-    pub few : total now.0 ≤ total first.0 + 4 * (length cells - length rest)
+    pub few : total now.0 ≤ total first.0 + 6 * (length cells - length rest)
     pub space : room first.1 ≤ room now.1 + 2 * (length cells - length rest)
 
   pub none_taken : ((s : S) → gets s [] s) → SoFar cells first
@@ -40,7 +40,7 @@ module _ {S : Type 0} (gets : S → List (Event (Heard Packet)) → S → Type 0
   pub one_more : ((a b c : S) (es fs : List (Event (Heard Packet))) → gets a es b → gets b fs c → gets a (es ++ fs) c) →
       (rest run more : List Cell) (now next : List RecoveringSlot × S) → FirstRun rest run more → SoFar rest now →
       Takes gets (Run run ∷ []) now next → length next.0 ≡ length now.0 →
-      total next.0 ≤ total now.0 + 4 * length run → room now.1 ≤ room next.1 + 2 * length run → SoFar more next
+      total next.0 ≤ total now.0 + 6 * length run → room now.1 ≤ room next.1 + 2 * length run → SoFar more next
   one_more longer rest run more now next cut i t len few space =
       let size = i.size in
       let all = cut.total in

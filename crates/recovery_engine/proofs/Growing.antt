@@ -30,9 +30,9 @@ use Rattle.stretch_readings.proofs.StretchLaws as stretches
 use Rattle.recovering_machines.specs.Port.{items_by, from_halfword}
 use Rattle.recovering_machines.proofs.Feeding.{same}
 use Rattle.recovery_report.specs.Port.{of_stretches, port_stretches, recovered, stretch_of}
-use Rattle.recovery_report.specs.Report.{Part, Run, parts_in, parts_of, report, report_from}
+use Rattle.recovery_report.specs.Report.{Part, Run, parts_in, parts_of, report_from_with, report_with}
 use Rattle.recovery_report.specs.Words.{parts_by}
-use Rattle.recovery_report.proofs.PartLaws.{report_append}
+use Rattle.recovery_report.proofs.PartLaws.{report_append_with}
 use Rattle.recovery_report.proofs.PortLaws as laws
 use Rattle.recovery_report.proofs.Sounds.{port_begins, port_sound}
 use Rattle.recovery_engine.proofs.Feeding.{bare_parts, port_push}
@@ -155,13 +155,14 @@ with_bytes mode u at (b ∷ bytes) =
           ∙ append_assoc (parts_in (recovered mode u)) one.0 rest.0,
     )
 
-pub report_grows : (plan : Plan) (xs ys : List ℕ) → (given : List (Event (Heard Packet))) ×
-    (report plan (placed (xs ++ ys)) ≡ report plan (placed xs) ++ given)
-report_grows plan xs ys =
+pub report_grows : (guesses : Bool) (plan : Plan) (xs ys : List ℕ) → (given : List (Event (Heard Packet))) ×
+    (report_with guesses plan (placed (xs ++ ys)) ≡ report_with guesses plan (placed xs) ++ given)
+report_grows guesses plan xs ys =
     let more = with_bytes plan.frames (placed xs) (length xs) ys in
     let parts = parts_in (recovered plan.frames (placed xs)) in (
-      report_from plan parts more.0,
-      ap (report plan) (placed_append xs ys) ∙ ap (report_from plan []) more.1 ∙ report_append plan parts more.0 [],
+      report_from_with guesses plan parts more.0,
+      ap (report_with guesses plan) (placed_append xs ys) ∙ ap (report_from_with guesses plan []) more.1
+          ∙ report_append_with guesses plan parts more.0 [],
     )
 
 -- of no bytes there is no event
@@ -170,5 +171,5 @@ no_parts Aligned = refl
 no_parts Hunt = refl
 no_parts Bare = refl
 
-pub nothing_first : (plan : Plan) → report plan (placed []) ≡ []
-nothing_first plan = ap (report_from plan []) (no_parts plan.frames)
+pub nothing_first : (guesses : Bool) (plan : Plan) → report_with guesses plan (placed []) ≡ []
+nothing_first guesses plan = ap (report_from_with guesses plan []) (no_parts plan.frames)

@@ -7,15 +7,15 @@ use Rattle.source_events.specs.declared.event.Event.{Event}
 use Rattle.source_events.specs.declared.packet.Packet.{Packet}
 use Rattle.source_events.proofs.Merges.{test_same, test_other}
 use Rattle.stretch_readings.specs.declared.heard.Heard.{Heard}
-use Rattle.recovering_machines.specs.Run.{TakesRun}
-use Rattle.recovering_machines.specs.declared.source.RecoveringSource.{RecoveringSource}
+use Rattle.recovering_machines.specs.Mapped.{TakesMapped}
+use Rattle.recovering_machines.specs.declared.mapped.MappedSource.{MappedSource}
 use Rattle.recovery_engine.specs.Slots.{source_at}
 use Rattle.recovery_engine.specs.Taking.{TakesOwn}
 use Rattle.recovery_engine.specs.declared.slot.RecoveringSlot.{RecoveringSlot}
 
-module _ {S : Type 0} (gets : S → List (Event (Heard Packet)) → S → Type 0) (room : S →
-    ℕ) (id : ℕ) (cells : List Cell) (s : RecoveringSlot) (rest slots : List RecoveringSlot) (p : slots ≡ s ∷ rest) (a b : S) where
-  pub own_first : (after : RecoveringSource) → s.id ≡ id → TakesRun gets room id cells s.source after a b →
+module _ {S : Type 0} (gets : S → List (Event (Heard Packet)) → S → Type 0) (room : S → ℕ) (id : ℕ)
+    (cells : List Cell) (s : RecoveringSlot) (rest slots : List RecoveringSlot) (p : slots ≡ s ∷ rest) (a b : S) where
+  pub own_first : (after : MappedSource) → s.id ≡ id → TakesMapped gets room id cells s.source after a b →
       TakesOwn gets room id cells (slots, a) (record { id = s.id; source = after } ∷ rest, b)
   own_first after e t = record {
     before = s.source;

@@ -1,7 +1,8 @@
 -- What a recovering engine stands for.
-use Rattle.std.specs.Prelude.{◌≡◌, ◌≢◌, ℕ, List, length}
+use Rattle.std.specs.Prelude.{◌≡◌, ◌≢◌, ℕ, List, Bool, length}
 use Rattle.trace_values.specs.Placed.{Placed}
 use Rattle.trace_values.specs.declared.reading_modes.FramesMode.TheVariants.{Bare}
+use Rattle.deformatter.specs.Rising.{BytesRise}
 use Rattle.source_events.specs.declared.plan.Plan.{Plan}
 use Rattle.recovery_report.specs.Port.{recovered}
 use Rattle.recovery_report.specs.Report.{parts_in}
@@ -10,17 +11,23 @@ use Rattle.recovery_engine.specs.Port.{PortStands}
 use Rattle.recovery_engine.specs.Slots.{StandFor}
 use Rattle.recovery_engine.specs.declared.engine.Recovery.{Recovery}
 
--- what it reads by
+-- what it reads by, and whether it gives guesses
 abbrev pub plan_of : Recovery → Plan
 plan_of e = e.plan
 
+abbrev pub guesses_of : Recovery → Bool
+guesses_of e = e.guesses
+
+-- how many bytes it has read, which is the offset of the next one
 abbrev pub count_of : Recovery → ℕ
 count_of e = e.count
 
--- It has read these bytes: its port and its sources stand for what they are in the recovering report, and it has
--- counted what the port's stretches have. With no formatter all that is counted is the bytes.
+-- It has read these bytes, whose offsets rise and are before the next one: its port and its sources stand for what they
+-- are in the recovering report, and it has counted what the port's stretches have. With no formatter all that is counted
+-- is the bytes.
 pub record Stands (e : Recovery) (u : List Placed) : Type 0 where
   pub port : PortStands e.plan.frames e.port u
-  pub sources : StandFor e.plan (parts_in (recovered e.plan.frames u)) e.slots.items
+  pub sources : StandFor e.guesses e.plan (parts_in (recovered e.plan.frames u)) e.slots.items
   pub counted : e.plan.frames ≢ Bare → HasCounted e.totals (recovered e.plan.frames u)
   pub count : e.count ≡ length u
+  pub rising : BytesRise 0 e.count u

@@ -1,6 +1,6 @@
 //! The reading of a capture that goes on after each fault, and counts what it reads.
 
-ghost use Rattle.std.specs.Prelude.{◌≡◌, ◌+◌, ◌*◌, ◌<◌, ◌≤◌};
+ghost use Rattle.std.specs.Prelude.{◌≡◌, ◌+◌, ◌*◌, ◌<◌, ◌≤◌, false};
 ghost use Rattle.recovery_engine.specs.Engine as reading;
 ghost use Rattle.recovery_engine.specs.Heard.{heard_of};
 ghost use Rattle.recovery_engine.specs.declared.engine.TheConstants.{GREATEST_OFFSET};
@@ -21,6 +21,7 @@ pub struct CountingRecovery {
     engine: Recovery,
     heard: HeardCounts,
     ghost few: { heard_of heard ≤ 30 * reading.count_of engine },
+    ghost sure: { reading.guesses_of engine ≡ false },
 }
 
 impl CountingRecovery {
@@ -37,7 +38,7 @@ impl CountingRecovery {
         ensures count { count_of result ≡ 0 }
     {
         CountingRecovery {
-            engine: Recovery::new(plan),
+            engine: Recovery::new(plan, false),
             heard: HeardCounts::new(),
         }
     }
@@ -49,19 +50,18 @@ impl CountingRecovery {
         self.engine.next()
     }
 
-    /// Takes bytes from the front of a piece, the first of which is at this offset, as the engine does, and answers how
-    /// many. The piece has a byte.
-    pub fn take(&mut self, at: u64, piece: &[u8]) -> usize
+    /// Takes bytes from the front of a piece, which comes next, as the engine does, and answers how many. The piece has
+    /// a byte.
+    pub fn take(&mut self, piece: &[u8]) -> usize
         requires some { 0 < length piece.now }
         requires limit { count_of self.old + length piece.now ≤ GREATEST_OFFSET + 1 }
-        requires offsets { at + length piece.now ≤ GREATEST_OFFSET + 1 }
         ensures bytes { (0 < result) × (result ≤ length piece.now) }
         ensures plan { plan_of self.new ≡ plan_of self.old }
         ensures count { count_of self.new ≡ count_of self.old + result }
         ensures list { (u : List Placed) → Stands self.old u →
-            Stands self.new (u ++ placed_from at (take result piece.now)) }
+            Stands self.new (u ++ placed_from (count_of self.old) (take result piece.now)) }
     {
-        self.engine.take(at, piece, &mut self.heard, &mut ())
+        self.engine.take(piece, &mut self.heard, &mut ())
     }
 
     /// How many bytes a source has, and how many items: its packets, or the runs of one that is not mapped. Notices of

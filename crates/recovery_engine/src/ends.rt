@@ -1,13 +1,13 @@
 //! How the port and the mapped sources of a recovering engine end.
 
-ghost use Rattle.std.specs.Prelude.{◌≡◌, ◌≤◌, length, List, IfSome, Some, is_some, true};
+ghost use Rattle.std.specs.Prelude.{◌≡◌, ◌≤◌, length, List, Bool, IfSome, Some, is_some, true};
 ghost use Rattle.trace_values.specs.Placed.{Placed};
 ghost use Rattle.trace_values.specs.declared.limits.TheConstants.{COUNT_ROOM, ID_COUNT};
 ghost use Rattle.source_events.specs.Plan.{kind_of};
 ghost use Rattle.source_events.specs.declared.plan.TheConstants.{MAPPED_SOURCES};
 ghost use Rattle.source_merge.specs.Ending.{all_of};
 ghost use Rattle.recovering_machines.specs.Port as ports;
-ghost use Rattle.recovering_machines.specs.Source.{total_of};
+ghost use Rattle.recovering_machines.specs.Mapped.{total_of};
 ghost use Rattle.recovery_report.specs.Port.{recovered};
 ghost use Rattle.recovery_report.specs.Report.{Part, mode_by, source_tails, tail_by};
 ghost use Rattle.recovery_engine.specs.Ends.{EndsAs, end_of};
@@ -61,7 +61,8 @@ pub fn port_end(port: &RecoveringPort, mode: FramesMode) -> PortEnd
 pub fn source_tails(plan: &Plan, slots: &[RecoveringSlot]) -> SourceTails
     requires few { length slots.now ≤ MAPPED_SOURCES }
     requires room { total slots.now ≤ COUNT_ROOM }
-    ensures { (parts : List Part) → StandFor plan.now parts slots.now → result ≡ source_tails plan.now parts ID_COUNT }
+    ensures { (guesses : Bool) (parts : List Part) → StandFor guesses plan.now parts slots.now →
+        result ≡ source_tails plan.now parts ID_COUNT }
 {
     let mut tails = SourceTails::new();
     for number in 0..ID_COUNT as u8 {
@@ -76,7 +77,7 @@ pub fn source_tails(plan: &Plan, slots: &[RecoveringSlot]) -> SourceTails
 fn numbered_tail(plan: &Plan, slots: &[RecoveringSlot], number: u8) -> Option<SourceTail>
     requires source { number ≤ 126 }
     requires room { total slots.now ≤ COUNT_ROOM }
-    ensures tail { (parts : List Part) → StandFor plan.now parts slots.now →
+    ensures tail { (guesses : Bool) (parts : List Part) → StandFor guesses plan.now parts slots.now →
         all_of result ≡ tail_by plan.now parts number (kind_of plan.now number) }
     ensures found { IfSome result (λ tail. is_some (source_at slots.now number) ≡ true) }
 {

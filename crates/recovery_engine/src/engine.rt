@@ -39,22 +39,24 @@ fn padded(piece: &[u8], count: usize) -> [u8; END_ROOM]
 }
 
 /// Reads a capture piece by piece, its port and each mapped source, and gives the events of its recovering report in
-/// order.
+/// order, with guesses or without.
 ///
 /// It **stands for** a list of placed bytes if what it keeps is that of the list's report. Its clauses hold for every
 /// list that it stood for before the call; a new one stands for the empty list.
 #[derive(Drop)]
 pub struct Recovery {
     plan: Plan,
+    /// Guesses are given.
+    guesses: bool,
     port: RecoveringPort,
     slots: Slots,
     totals: PortTotals,
     /// The cells of the frame that is taken.
     cells: ArrayVec<Cell, 15>,
-    /// How many bytes were fed.
+    /// How many bytes were fed: the offset of the next one.
     count: u64,
     ghost port_few: { total_of port ≤ 8 * count },
-    ghost few: { total slots.items ≤ 60 * count },
+    ghost few: { total slots.items ≤ 90 * count },
     ghost counted_few: { counted_of totals ≤ 16 * count },
     ghost limit: { count ≤ GREATEST_OFFSET + 1 },
 }
@@ -70,22 +72,24 @@ impl Recovery {
     ghost use Rattle.recovery_report.specs.Counts.{port_counts_of};
     ghost use Rattle.recovery_report.specs.Port.{frames_of, recovered};
     ghost use Rattle.recovery_report.specs.Report.{tails_of};
-    ghost use Rattle.recovery_engine.specs.Engine.{Stands, count_of, plan_of};
+    ghost use Rattle.recovery_engine.specs.Engine.{Stands, count_of, guesses_of, plan_of};
     ghost use Rattle.recovery_engine.specs.Front.{TakesFront, TakesGathered};
 
     /// An engine before the first byte.
-    pub fn new(plan: Plan) -> Recovery
+    pub fn new(plan: Plan, guesses: bool) -> Recovery
         ensures plan { plan_of result ≡ plan }
+        ensures guesses { guesses_of result ≡ guesses }
         ensures fresh { Stands result [] }
         ensures count { count_of result ≡ 0 }
     {
-        let slots = slots_of(&plan);
+        let slots = slots_of(&plan, guesses);
         let port = match plan.frames {
             FramesMode::Hunt => RecoveringPort::hunting(),
             FramesMode::Aligned | FramesMode::Bare => RecoveringPort::aligned(),
         };
         Recovery {
             plan,
+            guesses,
             port,
             slots,
             totals: PortTotals::new(),
@@ -94,56 +98,52 @@ impl Recovery {
         }
     }
 
-    /// Takes bytes from the front of a piece, the first of which is at this offset, and gives the events that the
-    /// recovering report grows by: a whole frame, or else bytes up to the first one that ends a frame or a
-    /// synchronisation, or is a fault, or to the piece's end. With no formatter it takes bytes for whose events there is
-    /// room.
+    /// Takes bytes from the front of a piece, which comes next, and gives the events that the recovering report grows
+    /// by: a whole frame, or else bytes up to the first one that ends a frame or a synchronisation, or is a fault, or to
+    /// the piece's end. With no formatter it takes bytes for whose events there is room.
     ///
     /// The piece has a byte, and there is room for 30 events.
-    pub fn take<V: Hearer>(&mut self, at: u64, piece: &[u8], out: &mut V, to: &mut V::To) -> usize
+    pub fn take<V: Hearer>(&mut self, piece: &[u8], out: &mut V, to: &mut V::To) -> usize
         requires some { 0 < length piece.now }
         requires limit { count_of self.old + length piece.now ≤ GREATEST_OFFSET + 1 }
-        requires offsets { at + length piece.now ≤ GREATEST_OFFSET + 1 }
         requires room { 30 ≤ V.room (out.old, to.old) }
-        ensures { TakesFront V.gets V.room at piece.now result
+        ensures { TakesFront V.gets V.room piece.now result
             (self.old, (out.old, to.old)) (self.new, (out.new, to.new)) }
     {
         match self.plan.frames {
-            FramesMode::Bare => self.take_bare(at, piece, out, to),
-            FramesMode::Hunt | FramesMode::Aligned => self.take_framed(at, piece, out, to),
+            FramesMode::Bare => self.take_bare(piece, out, to),
+            FramesMode::Hunt | FramesMode::Aligned => self.take_framed(piece, out, to),
         }
     }
 
     /// Takes bytes of a capture with no formatter.
-    fn take_bare<V: Hearer>(&mut self, at: u64, piece: &[u8], out: &mut V, to: &mut V::To) -> usize
+    fn take_bare<V: Hearer>(&mut self, piece: &[u8], out: &mut V, to: &mut V::To) -> usize
         requires bare { self.old.plan.frames ≡ Bare }
         requires some { 0 < length piece.now }
         requires limit { count_of self.old + length piece.now ≤ GREATEST_OFFSET + 1 }
-        requires offsets { at + length piece.now ≤ GREATEST_OFFSET + 1 }
         requires room { 30 ≤ V.room (out.old, to.old) }
-        ensures { TakesFront V.gets V.room at piece.now result
+        ensures { TakesFront V.gets V.room piece.now result
             (self.old, (out.old, to.old)) (self.new, (out.new, to.new)) }
     {
         if piece.len() > END_ROOM {
-            return self.take_long(at, piece, out, to);
+            return self.take_long(piece, out, to);
         }
-        self.take_short(at, piece, out, to)
+        self.take_short(piece, out, to)
     }
 
     /// Takes bytes of a long piece where they are.
     #[inline(always)]
-    fn take_long<V: Hearer>(&mut self, at: u64, piece: &[u8], out: &mut V, to: &mut V::To) -> usize
+    fn take_long<V: Hearer>(&mut self, piece: &[u8], out: &mut V, to: &mut V::To) -> usize
         requires bare { self.old.plan.frames ≡ Bare }
         requires some { END_ROOM < length piece.now }
         requires limit { count_of self.old + length piece.now ≤ GREATEST_OFFSET + 1 }
-        requires offsets { at + length piece.now ≤ GREATEST_OFFSET + 1 }
         requires room { 30 ≤ V.room (out.old, to.old) }
-        ensures { TakesFront V.gets V.room at piece.now result
+        ensures { TakesFront V.gets V.room piece.now result
             (self.old, (out.old, to.old)) (self.new, (out.new, to.new)) }
     {
         let count = (out.events_left(to) / 2).min(piece.len() - AHEAD);
         let run = PieceRun {
-            at,
+            at: self.count,
             count,
             ahead: piece,
         };
@@ -152,20 +152,19 @@ impl Recovery {
 
     /// Takes bytes of a short piece, which are copied.
     #[inline(never)]
-    fn take_short<V: Hearer>(&mut self, at: u64, piece: &[u8], out: &mut V, to: &mut V::To) -> usize
+    fn take_short<V: Hearer>(&mut self, piece: &[u8], out: &mut V, to: &mut V::To) -> usize
         requires bare { self.old.plan.frames ≡ Bare }
         requires some { 0 < length piece.now }
         requires limit { count_of self.old + length piece.now ≤ GREATEST_OFFSET + 1 }
-        requires offsets { at + length piece.now ≤ GREATEST_OFFSET + 1 }
         requires room { 30 ≤ V.room (out.old, to.old) }
-        ensures { TakesFront V.gets V.room at piece.now result
+        ensures { TakesFront V.gets V.room piece.now result
             (self.old, (out.old, to.old)) (self.new, (out.new, to.new)) }
     {
         let most = (out.events_left(to) / 2).min(END_ROOM - AHEAD);
         let count = most.min(piece.len());
         let ahead = padded(piece, count);
         let run = PieceRun {
-            at,
+            at: self.count,
             count,
             ahead: &ahead,
         };
@@ -176,10 +175,11 @@ impl Recovery {
     #[inline(always)]
     fn take_piece<V: Hearer>(&mut self, run: &PieceRun, out: &mut V, to: &mut V::To) -> usize
         requires bare { self.old.plan.frames ≡ Bare }
+        requires here { run.now.at ≡ count_of self.old }
         requires some { 0 < run.now.count }
         requires limit { count_of self.old + run.now.count ≤ GREATEST_OFFSET + 1 }
         requires room { 2 * run.now.count ≤ V.room (out.old, to.old) }
-        ensures { TakesFront V.gets V.room run.now.at (bytes_in run.now) result
+        ensures { TakesFront V.gets V.room (bytes_in run.now) result
             (self.old, (out.old, to.old)) (self.new, (out.new, to.new)) }
     {
         take_each(self.slots.as_mut_slice(), bare_source(), run, out, to);
@@ -189,28 +189,21 @@ impl Recovery {
 
     /// Takes the whole frame that a piece begins with, with half synchronisations between its halfwords or without, or
     /// else bytes as `take_step` does.
-    fn take_framed<V: Hearer>(
-        &mut self,
-        at: u64,
-        piece: &[u8],
-        out: &mut V,
-        to: &mut V::To,
-    ) -> usize
+    fn take_framed<V: Hearer>(&mut self, piece: &[u8], out: &mut V, to: &mut V::To) -> usize
         requires framed { self.old.plan.frames ≢ Bare }
         requires some { 0 < length piece.now }
         requires limit { count_of self.old + length piece.now ≤ GREATEST_OFFSET + 1 }
-        requires offsets { at + length piece.now ≤ GREATEST_OFFSET + 1 }
         requires room { 30 ≤ V.room (out.old, to.old) }
-        ensures { TakesFront V.gets V.room at piece.now result
+        ensures { TakesFront V.gets V.room piece.now result
             (self.old, (out.old, to.old)) (self.new, (out.new, to.new)) }
     {
         if self.port.is_between() {
-            if let Some(frame) = place_frame(at, piece) {
+            if let Some(frame) = place_frame(self.count, piece) {
                 self.take_gathered(&frame, out, to);
                 return frame.size();
             }
         }
-        self.take_step(at, piece, out, to)
+        self.take_step(piece, out, to)
     }
 
     /// Takes a whole frame.
@@ -218,7 +211,7 @@ impl Recovery {
         requires framed { self.old.plan.frames ≢ Bare }
         requires between { IsBetween self.old.port }
         requires limit { count_of self.old + (FRAME_BYTES + 2 * frame.now.halves) ≤ GREATEST_OFFSET + 1 }
-        requires offsets { frame.now.at + (FRAME_BYTES + 2 * frame.now.halves) ≤ GREATEST_OFFSET + 1 }
+        requires here { frame.now.at ≡ count_of self.old }
         requires room { 30 ≤ V.room (out.old, to.old) }
         ensures { TakesGathered V.gets V.room frame.now
             (self.old, (out.old, to.old)) (self.new, (out.new, to.new)) }
@@ -232,20 +225,19 @@ impl Recovery {
 
     /// Takes bytes of a capture in frames up to the first one that ends a frame or a synchronisation, or is a fault, or
     /// to the piece's end.
-    fn take_step<V: Hearer>(&mut self, at: u64, piece: &[u8], out: &mut V, to: &mut V::To) -> usize
+    fn take_step<V: Hearer>(&mut self, piece: &[u8], out: &mut V, to: &mut V::To) -> usize
         requires framed { self.old.plan.frames ≢ Bare }
         requires some { 0 < length piece.now }
         requires limit { count_of self.old + length piece.now ≤ GREATEST_OFFSET + 1 }
-        requires offsets { at + length piece.now ≤ GREATEST_OFFSET + 1 }
         requires room { 30 ≤ V.room (out.old, to.old) }
-        ensures { TakesFront V.gets V.room at piece.now result
+        ensures { TakesFront V.gets V.room piece.now result
             (self.old, (out.old, to.old)) (self.new, (out.new, to.new)) }
     {
         self.cells.clear();
-        let taken = self.port.feed_block(at, piece, &mut self.cells);
+        let taken = self.port.feed_block(self.count, piece, &mut self.cells);
         let cells = self.cells.as_slice();
         self.totals.add_step(&taken.step, cells);
-        let last = at + (taken.bytes as u64 - 1);
+        let last = self.count + (taken.bytes as u64 - 1);
         take_step(self.slots.as_mut_slice(), last, taken.step, cells, out, to);
         self.count += taken.bytes as u64;
         taken.bytes

@@ -73,12 +73,12 @@ pub fn take_run<R: Run, V: Hearer>(
     to: &mut V::To,
 )
     requires own { IsRunOf source.now (R.cells run.now) }
-    requires few { total slots.old + 4 * length (R.cells run.now) ≤ COUNT_ROOM }
+    requires few { total slots.old + 6 * length (R.cells run.now) ≤ COUNT_ROOM }
     requires room { 2 * length (R.cells run.now) ≤ V.room (out.old, to.old) }
     ensures takes { Takes V.gets (RunPart (R.cells run.now) ∷ [])
         (slots.old, (out.old, to.old)) (slots.new, (out.new, to.new)) }
     ensures len { length slots.new ≡ length slots.old }
-    ensures few { total slots.new ≤ total slots.old + 4 * length (R.cells run.now) }
+    ensures few { total slots.new ≤ total slots.old + 6 * length (R.cells run.now) }
     ensures room { V.room (out.old, to.old) ≤ V.room (out.new, to.new) + 2 * length (R.cells run.now) }
 {
     let Some(id) = *source else {
@@ -98,12 +98,12 @@ pub fn take_whole<V: Hearer>(
     to: &mut V::To,
 )
     requires near { frame.now.at + 255 < 2 ^ 64 }
-    requires few { total slots.old + 60 ≤ COUNT_ROOM }
+    requires few { total slots.old + 90 ≤ COUNT_ROOM }
     requires room { 30 ≤ V.room (out.old, to.old) }
     ensures takes { Takes V.gets (map RunPart (runs_of (cells frame.now.bytes (frame_places frame.now) id.now)))
         (slots.old, (out.old, to.old)) (slots.new, (out.new, to.new)) }
     ensures len { length slots.new ≡ length slots.old }
-    ensures few { total slots.new ≤ total slots.old + 60 }
+    ensures few { total slots.new ≤ total slots.old + 90 }
     ensures room { V.room (out.old, to.old) ≤ V.room (out.new, to.new) + 30 }
 {
     let split = SplitFrame::of(frame, id);
@@ -135,12 +135,12 @@ pub fn take_each<R: Run, V: Hearer>(
     to: &mut V::To,
 )
     requires own { AreOf id (R.cells run.now) }
-    requires few { total slots.old + 4 * length (R.cells run.now) ≤ COUNT_ROOM }
+    requires few { total slots.old + 6 * length (R.cells run.now) ≤ COUNT_ROOM }
     requires room { 2 * length (R.cells run.now) ≤ V.room (out.old, to.old) }
     ensures takes { Takes V.gets (singles (R.cells run.now))
         (slots.old, (out.old, to.old)) (slots.new, (out.new, to.new)) }
     ensures len { length slots.new ≡ length slots.old }
-    ensures few { total slots.new ≤ total slots.old + 4 * length (R.cells run.now) }
+    ensures few { total slots.new ≤ total slots.old + 6 * length (R.cells run.now) }
     ensures room { V.room (out.old, to.old) ≤ V.room (out.new, to.new) + 2 * length (R.cells run.now) }
 {
     if !take_own(slots, id, run, out, to) {
@@ -151,12 +151,12 @@ pub fn take_each<R: Run, V: Hearer>(
 /// Takes the cells of a frame, run by run.
 fn take_frame<V: Hearer>(slots: &mut [RecoveringSlot], cells: &[Cell], out: &mut V, to: &mut V::To)
     requires size { length cells.now ≤ 15 }
-    requires few { total slots.old + 4 * length cells.now ≤ COUNT_ROOM }
+    requires few { total slots.old + 6 * length cells.now ≤ COUNT_ROOM }
     requires room { 2 * length cells.now ≤ V.room (out.old, to.old) }
     ensures takes { Takes V.gets (map RunPart (runs_of cells.now))
         (slots.old, (out.old, to.old)) (slots.new, (out.new, to.new)) }
     ensures len { length slots.new ≡ length slots.old }
-    ensures few { total slots.new ≤ total slots.old + 4 * length cells.now }
+    ensures few { total slots.new ≤ total slots.old + 6 * length cells.now }
     ensures room { V.room (out.old, to.old) ≤ V.room (out.new, to.new) + 2 * length cells.now }
 {
     if cells.is_empty() {
@@ -179,12 +179,12 @@ pub fn take_step<V: Hearer>(
     to: &mut V::To,
 )
     requires size { length cells.now ≤ 15 }
-    requires few { total slots.old + 60 ≤ COUNT_ROOM }
+    requires few { total slots.old + 90 ≤ COUNT_ROOM }
     requires room { 30 ≤ V.room (out.old, to.old) }
     ensures takes { Takes V.gets (parts_by 0 at step cells.now)
         (slots.old, (out.old, to.old)) (slots.new, (out.new, to.new)) }
     ensures len { length slots.new ≡ length slots.old }
-    ensures few { total slots.new ≤ total slots.old + 60 }
+    ensures few { total slots.new ≤ total slots.old + 90 }
     ensures room { V.room (out.old, to.old) ≤ V.room (out.new, to.new) + 30 }
 {
     match step {

@@ -10,7 +10,7 @@ ghost use Rattle.recovery_engine.specs.Slots.{source_at, total};
 ghost use Rattle.recovery_engine.specs.Taking.{AreCut, TakesOwn};
 
 use arrayvec::ArrayVec;
-use recovering_machines::{Hearer, RecoveringSource, feed_run};
+use recovering_machines::{Hearer, MappedSource};
 use source_events::{MAPPED_SOURCES, Plan, SourceKind};
 use source_merge::Run;
 use stp_grammar::packet::Order;
@@ -20,7 +20,7 @@ use trace_values::{PacketsMode, SourceId};
 #[derive(Drop)]
 pub struct RecoveringSlot {
     pub id: SourceId,
-    pub source: RecoveringSource,
+    pub source: MappedSource,
 }
 
 /// The default slot only fills the unused places of a buffer.
@@ -28,7 +28,7 @@ impl Default for RecoveringSlot {
     fn default() -> RecoveringSlot {
         RecoveringSlot {
             id: SourceId::default(),
-            source: RecoveringSource::new(SourceKind::Itm, PacketsMode::Aligned, Order::Msn),
+            source: MappedSource::new(SourceKind::Itm, PacketsMode::Aligned, Order::Msn, false),
         }
     }
 }
@@ -36,29 +36,41 @@ impl Default for RecoveringSlot {
 /// The mapped sources of a plan.
 pub type Slots = ArrayVec<RecoveringSlot, MAPPED_SOURCES>;
 
-/// Those of a plan, each before its first byte.
-pub fn slots_of(plan: &Plan) -> Slots
-    ensures fresh { AreFresh plan.now result.items }
+/// Those of a plan, each before its first byte, with guesses or without.
+pub fn slots_of(plan: &Plan, guesses: bool) -> Slots
+    ensures fresh { AreFresh guesses plan.now result.items }
     ensures few { total result.items ≤ 0 }
 {
     let mut slots = ArrayVec::new();
-    add_slots(&mut slots, SourceKind::Itm, plan.itm.as_slice(), plan);
-    add_slots(&mut slots, SourceKind::Stp, plan.stp.as_slice(), plan);
+    add_slots(
+        &mut slots,
+        SourceKind::Itm,
+        plan.itm.as_slice(),
+        plan,
+        guesses,
+    );
+    add_slots(
+        &mut slots,
+        SourceKind::Stp,
+        plan.stp.as_slice(),
+        plan,
+        guesses,
+    );
     slots
 }
 
 /// Adds the sources of these IDs, which are of one kind.
-fn add_slots(slots: &mut Slots, kind: SourceKind, ids: &[SourceId], plan: &Plan)
+fn add_slots(slots: &mut Slots, kind: SourceKind, ids: &[SourceId], plan: &Plan, guesses: bool)
     requires room { array_vec_len slots.old + length ids.now ≤ MAPPED_SOURCES }
     ensures added { (x : ℕ) →
-        IsAdded plan.now kind ids.now x (source_at slots.old.items x) (source_at slots.new.items x) }
+        IsAdded guesses plan.now kind ids.now x (source_at slots.old.items x) (source_at slots.new.items x) }
     ensures count { array_vec_len slots.new ≡ array_vec_len slots.old + length ids.now }
     ensures few { total slots.new.items ≤ total slots.old.items }
 {
     for id in ids {
         slots.push(RecoveringSlot {
             id: *id,
-            source: RecoveringSource::new(kind, plan.packets, plan.order),
+            source: MappedSource::new(kind, plan.packets, plan.order, guesses),
         });
     }
 }
@@ -71,21 +83,21 @@ pub fn take_own<R: Run, V: Hearer>(
     out: &mut V,
     to: &mut V::To,
 ) -> bool
-    requires few { total slots.old + 4 * length (R.cells run.now) ≤ COUNT_ROOM }
+    requires few { total slots.old + 6 * length (R.cells run.now) ≤ COUNT_ROOM }
     requires room { 2 * length (R.cells run.now) ≤ V.room (out.old, to.old) }
     ensures own { result ≡ true → TakesOwn V.gets V.room id (R.cells run.now)
         (slots.old, (out.old, to.old)) (slots.new, (out.new, to.new)) }
     ensures other { result ≡ false →
         (slots.new ≡ slots.old) × (out.new ≡ out.old) × (to.new ≡ to.old) × (source_at slots.old id ≡ None) }
     ensures len { length slots.new ≡ length slots.old }
-    ensures few { total slots.new ≤ total slots.old + 4 * length (R.cells run.now) }
+    ensures few { total slots.new ≤ total slots.old + 6 * length (R.cells run.now) }
     ensures room { V.room (out.old, to.old) ≤ V.room (out.new, to.new) + 2 * length (R.cells run.now) }
 {
     let Some((slot, rest)) = slots.split_first_mut() else {
         return false;
     };
     if slot.id == id {
-        feed_run(&mut slot.source, id, run, out, to);
+        slot.source.take_run(id, run, out, to);
         return true;
     }
     take_own(rest, id, run, out, to)

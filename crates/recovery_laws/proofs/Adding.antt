@@ -1,6 +1,6 @@
 -- What one more part adds to the events of each source.
-use Rattle.std.proofs.Common.{◌≡◌, ℕ, ◌+◌, ◌≤◌, List, [], ◌∷◌, ◌++◌, map, refl, sym, ◌∙◌, ap, inl, inr, ◌⊎◌}
-use Rattle.std.proofs.Common.{append-nil, Option, None, Some, Bool, true, false}
+use Rattle.std.proofs.Common.{◌≡◌, ℕ, ◌+◌, List, [], ◌∷◌, ◌++◌, map, refl, sym, ◌∙◌, ap, inl, inr, ◌⊎◌}
+use Rattle.std.proofs.Common.{append-nil, Option, None, Some, true, false}
 use Rattle.std.specs.Prelude.{flat_map}
 use Rattle.std.proofs.lemmas.Grind.{flat_map-append}
 use Rattle.trace_values.specs.declared.cell.Cell.{Cell}
@@ -12,7 +12,6 @@ use Rattle.source_events.specs.declared.event.What.{What}
 use Rattle.source_events.specs.declared.packet.Packet.{Packet}
 use Rattle.source_events.specs.declared.plan.Plan.{Plan}
 use Rattle.source_events.specs.declared.plan.SourceKind.{SourceKind}
-use Rattle.source_events.specs.declared.plan.SourceKind.TheVariants.{Itm, Stp}
 use Rattle.source_events.specs.Merge.{start_of}
 use Rattle.source_events.specs.Plan.{kind_of}
 use Rattle.source_events.specs.Report.{lifted, raw_events, raws}
@@ -28,21 +27,11 @@ use Rattle.recovering_machines.specs.Run.{units_in}
 use Rattle.recovering_machines.proofs.Runs.{lifted_append}
 use Rattle.recovery_report.specs.Report.{Part, Run, Locks, Breaks, events_by, events_of, list_of, run_in, stream_of}
 use Rattle.recovery_report.specs.Report.{stretches_of}
+use Rattle.recovery_report.specs.Placing.{PartLies, part_end}
 use Rattle.recovery_report.proofs.PartLaws as parts
-use Rattle.recovery_report.proofs.Sounds.{sources_begin, sources_sound}
+use Rattle.recovery_report.proofs.Sounds.{quiet, sources_begin, sources_sound}
 use Rattle.recovery_report.proofs.Hearing.{cells_in, stays_whole, units_more}
 use Rattle.recovery_report.proofs.Rises.{rises}
-
--- where a part lies: from an offset on, and before another
-abbrev pub PartLies : ℕ → Part → Type 0
-PartLies n (Run run) = IsRunFrom n run
-PartLies n (Locks skipped place) = n ≤ place.at
-PartLies n (Breaks reason place) = n ≤ place.at
-
-abbrev pub part_end : Part → ℕ
-part_end (Run run) = end_of run
-part_end (Locks skipped place) = place.at + 1
-part_end (Breaks reason place) = place.at + 1
 
 -- whose it is: a source's, or the port's
 abbrev pub whose : Part → Option ℕ
@@ -52,12 +41,6 @@ whose (Breaks reason place) = None
 
 abbrev Heards : Type 0
 Heards = List (What (Heard Packet) × Place)
-
-pub quiet : (plan : Plan) (kind : SourceKind) (h : Bool) → (reads_by plan.order kind h []).given ≡ []
-quiet plan Itm false = refl
-quiet plan Itm true = refl
-quiet plan Stp false = refl
-quiet plan Stp true = refl
 
 runs_push : (ms : List Part) (m : Part) → flat_map run_in (ms ++ m ∷ []) ≡ flat_map run_in ms ++ run_in m
 runs_push ms m = flat_map-append run_in ms (m ∷ []) ∙ ap (λ l. flat_map run_in ms ++ l) (append-nil (run_in m))

@@ -1,48 +1,37 @@
 -- The report with guesses is, without them, the report.
-use Rattle.std.proofs.Common.{◌≡◌, ℕ, ◌+◌, ◌≤◌, List, [], ◌∷◌, ◌++◌, length, refl, sym, ◌∙◌, ap, subst, arith, inl, inr}
-use Rattle.std.proofs.Common.{◌⊎◌}
-use Rattle.std.proofs.Common.{append-nil, Option, None, Some, Bool, true, false, cond}
-use Rattle.std.specs.Prelude.{filter, map, not, ◌==◌, ◌||◌}
+use Rattle.std.proofs.Common.{◌≡◌, ℕ, ◌+◌, List, [], ◌∷◌, ◌++◌, length, refl, sym, ◌∙◌, ap}
+use Rattle.std.proofs.Common.{Option, None, Some, Bool, true, false, cond}
+use Rattle.std.specs.Prelude.{filter, not, ◌==◌, ◌||◌}
 use Rattle.std.specs.List.{list_any}
 use Rattle.std.proofs.lemmas.List.Elements.{filter-append}
 use Rattle.trace_values.specs.declared.cell.Cell.{Cell}
-use Rattle.trace_values.specs.declared.fault.Reason.{Reason}
 use Rattle.trace_values.specs.Placed.{Place, Placed, placed}
-use Rattle.trace_values.specs.ReadingModes.{packets_hunt}
-use Rattle.trace_values.specs.Stream.{Said, Notice, Kept, Stream}
+use Rattle.trace_values.specs.Stream.{Said, Notice, Kept}
 use Rattle.deformatter.specs.Rising.{BytesRise}
-use Rattle.frame_grammar.specs.Reading.{is_source}
 use Rattle.source_events.specs.declared.event.Event.{Event}
 use Rattle.source_events.specs.declared.event.What.{What}
 use Rattle.source_events.specs.declared.packet.Packet.{Packet}
 use Rattle.source_events.specs.declared.plan.Plan.{Plan}
 use Rattle.source_events.specs.declared.plan.SourceKind.{SourceKind}
-use Rattle.source_events.specs.declared.plan.SourceKind.TheVariants.{Itm, Stp}
 use Rattle.source_events.specs.Merge.{InOrder, told}
 use Rattle.source_events.specs.Plan.{kind_of}
 use Rattle.source_events.specs.Report.{lifted, raw_events, triggers}
-use Rattle.source_events.specs.Runs.{end_of, id_of, IsRunFrom}
+use Rattle.source_events.specs.Runs.{id_of, IsRunFrom}
 use Rattle.source_events.proofs.Captures.{capture_rises}
-use Rattle.source_events.proofs.Family.{of_cases, within_run}
-use Rattle.source_events.proofs.Running.{end_within}
-use Rattle.source_machine.specs.Units.{reads_by}
 use Rattle.stretch_readings.specs.declared.heard.Heard.{Heard}
 use Rattle.stretch_readings.specs.declared.heard.Heard.TheVariants.{Read, Broken, Guessed, Misread}
 use Rattle.stretch_readings.specs.Guessing.{is_sure, near_of, sure_of}
-use Rattle.stretch_readings.specs.Stretches.{Stretches, from_fault, heard_of}
+use Rattle.stretch_readings.specs.Stretches.{from_fault}
 use Rattle.recovering_machines.specs.Hearing.{is_guess}
 use Rattle.recovery_report.specs.Port.{recovered}
 use Rattle.recovery_report.specs.Report.{Part, Run, Locks, Breaks, added, added_by, added_by_with, added_with, parts_in}
 use Rattle.recovery_report.specs.Report.{report, report_from, report_from_with, report_with, said_in, stretches_of}
 use Rattle.recovery_report.specs.Report.{sure_events}
-use Rattle.recovery_report.proofs.Guesses.{IsBelow, IsNear, below_first, below_later, cut_more, run_more}
+use Rattle.recovery_report.specs.Placing.{PartLies, part_end}
+use Rattle.recovery_report.proofs.Nearing.{AllBelow, first_below, near, reads}
 use Rattle.recovery_report.proofs.PartLaws as parts
-use Rattle.recovery_report.proofs.Rises.{rises}
-use Rattle.recovery_report.proofs.Sounds.{sources_begin, sources_sound}
+use Rattle.recovery_report.proofs.Parting.{parts_in_order}
 use Rattle.recovery_report.proofs.Sure.{near_sure}
-use Rattle.recovery_laws.proofs.Adding.{PartLies, part_end, quiet}
-use Rattle.recovery_laws.proofs.Ordering.{end_later}
-use Rattle.recovery_laws.proofs.Parting.{parts_placed}
 
 abbrev Saids : Type 0
 Saids = List (Said (Heard Packet) × Place)
@@ -89,74 +78,20 @@ raw_sure x run = null (x == 0) (x == 125) where
   null false false = refl
 
 module _ (plan : Plan) where
-  abbrev pub reads : SourceKind → Bool → List Placed → Stream Packet
-  reads kind = reads_by plan.order kind
-
-  abbrev pub Below : SourceKind → ℕ → Stretches → Type 0
-  Below kind n r = IsBelow (reads kind) (rises plan.order kind) (sources_begin plan.order kind) (quiet plan kind true)
-      (sources_sound plan.order kind) n r
-
-  abbrev pub Near : SourceKind → ℕ → Stretches → Stretches → Type 0
-  Near kind n r s = IsNear (reads kind) (rises plan.order kind) (sources_begin plan.order kind) (quiet plan kind true)
-      (sources_sound plan.order kind) n r s
-
-  -- all that each mapped source has is before an offset
-  abbrev pub AllBelow : ℕ → List Part → Type 0
-  AllBelow n ms = (x : ℕ) (kind : SourceKind) → Below kind n (stretches_of plan kind x ms)
-
-  pub first_below : (n : ℕ) → AllBelow n []
-  first_below n x kind = below_first (reads kind) (rises plan.order kind) (sources_begin plan.order kind)
-      (quiet plan kind true) (sources_sound plan.order kind) n (packets_hunt plan.packets)
-      (quiet plan kind (packets_hunt plan.packets))
-
-  -- what a part is to a source
-  module _ (n : ℕ) (ms : List Part) (all : AllBelow n ms) (x : ℕ) (kind : SourceKind) where
-    abbrev pub old : Stretches
-    old = stretches_of plan kind x ms
-
-    same : (m : Part) (l : PartLies n m) → stretches_of plan kind x (ms ++ m ∷ []) ≡ old →
-        Near kind (part_end m) old (stretches_of plan kind x (ms ++ m ∷ []))
-    same m l e = record {
-      extra = [];
-      is = ap (near_of (reads kind) from_fault) e ∙ sym (append-nil (near_of (reads kind) from_fault old));
-      below = subst (Below kind (part_end m)) (sym e)
-          (below_later (reads kind) (rises plan.order kind) (sources_begin plan.order kind) (quiet plan kind true)
-          (sources_sound plan.order kind) n (part_end m) old (end_later n m l) (all x kind));
-    }
-
-    own : (run : List Cell) → IsRunFrom n run → is_source x (id_of run) ≡ true →
-        Near kind (end_of run) old (stretches_of plan kind x (ms ++ Run run ∷ []))
-    own run l i =
-        subst (Near kind (end_of run) old) (sym (parts.own_list plan kind x ms run i))
-        (run_more (reads kind) (rises plan.order kind) (sources_begin plan.order kind) (quiet plan kind true)
-        (sources_sound plan.order kind) kind run n (end_of run) old (within_run n run l) (end_within n run l)
-        (all x kind))
-
-    pub near : (m : Part) → PartLies n m → Near kind (part_end m) old (stretches_of plan kind x (ms ++ m ∷ []))
-    near (Run run) l = elim (of_cases x (id_of run)) [
-      | inl i ↦ own run l i.1
-      | inr i ↦ same (Run run) l (parts.other plan kind x ms run i.1)
-    ]
-    near (Locks skipped place) l = same (Locks skipped place) l (parts.lock plan kind x ms skipped place)
-    near (Breaks reason place) l =
-        subst (Near kind (place.at + 1) old) (sym (parts.cut plan kind x ms reason place))
-        (cut_more (reads kind) (rises plan.order kind) (sources_begin plan.order kind) (quiet plan kind true)
-        (sources_sound plan.order kind) (place.at + 1) old)
-
   -- what a part adds
-  module _ (n : ℕ) (ms : List Part) (all : AllBelow n ms) (run : List Cell) (l : IsRunFrom n run) where
+  module _ (n : ℕ) (ms : List Part) (all : AllBelow plan n ms) (run : List Cell) (l : IsRunFrom n run) where
     abbrev next : List Part
     next = ms ++ Run run ∷ []
 
     mapped : (x : ℕ) (kind : SourceKind) → kind_of plan x ≡ Some kind → id_of run ≡ Some x →
         sure_events (added_with true plan ms (Run run)) ≡ added plan ms (Run run)
     mapped x kind k i =
-        let grew = near n ms all x kind (Run run) l in
+        let grew = near plan n ms all x kind (Run run) l in
         let sure : said_in false plan kind x next ≡ said_in false plan kind x ms ++ sure_of grew.extra =
-        sym (near_sure (reads kind) from_fault (stretches_of plan kind x next)) ∙ ap sure_of grew.is
+        sym (near_sure (reads plan kind) from_fault (stretches_of plan kind x next)) ∙ ap sure_of grew.is
         ∙ filter-append (λ (s : Said (Heard Packet) × Place). is_sure s.0)
-        (near_of (reads kind) from_fault (stretches_of plan kind x ms)) grew.extra
-        ∙ ap (λ h. h ++ sure_of grew.extra) (near_sure (reads kind) from_fault (stretches_of plan kind x ms)) in
+        (near_of (reads plan kind) from_fault (stretches_of plan kind x ms)) grew.extra
+        ∙ ap (λ h. h ++ sure_of grew.extra) (near_sure (reads plan kind) from_fault (stretches_of plan kind x ms)) in
         ap sure_events ((parts.own_with true plan kind x ms run k i).more grew.extra grew.is)
         ∙ told_sure (Some x) (lifted grew.extra) ∙ ap (told (Some x)) (lifted_sure grew.extra)
         ∙ sym ((parts.own plan kind x ms run k i).more (sure_of grew.extra) sure)
@@ -176,13 +111,13 @@ module _ (plan : Plan) where
       by None k = unmapped x k e
       by (Some kind) k = mapped x kind k e
 
-  sure_added : (n : ℕ) (ms : List Part) → AllBelow n ms → (m : Part) → PartLies n m →
+  sure_added : (n : ℕ) (ms : List Part) → AllBelow plan n ms → (m : Part) → PartLies n m →
       sure_events (added_with true plan ms m) ≡ added plan ms m
   sure_added n ms all (Run run) l = of_run n ms all run l (id_of run) refl
   sure_added n ms all (Locks skipped place) l = refl
   sure_added n ms all (Breaks reason place) l = refl
 
-  pub sure_report : (ms ahead : List Part) (n : ℕ) → InOrder PartLies part_end n ms → AllBelow n ahead →
+  pub sure_report : (ms ahead : List Part) (n : ℕ) → InOrder PartLies part_end n ms → AllBelow plan n ahead →
       sure_events (report_from_with true plan ahead ms) ≡ report_from plan ahead ms
   sure_report [] ahead n r all = refl
   sure_report (m ∷ ms) ahead n r all =
@@ -191,11 +126,11 @@ module _ (plan : Plan) where
       filter-append (λ (e : Event (Heard Packet)). not (is_guess e.what)) (added_with true plan ahead m) rest
       ∙ ap (λ g. g ++ sure_events rest) (sure_added n ahead all m r.0)
       ∙ ap (λ g. added plan ahead m ++ g)
-      (sure_report ms next (part_end m) r.1 (λ x kind. (near n ahead all x kind m r.0).below))
+      (sure_report ms next (part_end m) r.1 (λ x kind. (near plan n ahead all x kind m r.0).below))
 
   pub sure_first : (ms : List Part) (n : ℕ) → InOrder PartLies part_end n ms →
       sure_events (report_from_with true plan [] ms) ≡ report_from plan [] ms
-  sure_first ms n r = sure_report ms [] n r (first_below n)
+  sure_first ms n r = sure_report ms [] n r (first_below plan n)
 
 -- the report has no guess
 sure_none : (es : Events) → list_any (λ e. is_guess e.what) (sure_events es) ≡ false
@@ -213,7 +148,7 @@ pub no_guess : (plan : Plan) (n k : ℕ) (u : List Placed) → BytesRise n k u �
     list_any (λ e. is_guess e.what) (report plan u) ≡ false
 no_guess plan n k u rise =
     ap (list_any (λ e. is_guess e.what))
-    (sym (sure_first plan (parts_in (recovered plan.frames u)) n (parts_placed plan.frames u n k rise)))
+    (sym (sure_first plan (parts_in (recovered plan.frames u)) n (parts_in_order plan.frames u n k rise)))
     ∙ sure_none (report_with true plan u)
 
 -- of a capture
@@ -221,4 +156,4 @@ pub sure_capture : (plan : Plan) (bytes : List ℕ) →
     sure_events (report_with true plan (placed bytes)) ≡ report plan (placed bytes)
 sure_capture plan bytes =
     sure_first plan (parts_in (recovered plan.frames (placed bytes))) 0
-    (parts_placed plan.frames (placed bytes) 0 (length bytes) (capture_rises bytes))
+    (parts_in_order plan.frames (placed bytes) 0 (length bytes) (capture_rises bytes))

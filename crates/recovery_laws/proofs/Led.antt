@@ -28,9 +28,9 @@ use Rattle.recovery_report.specs.Counts.{is_fault}
 use Rattle.recovery_report.specs.Report.{Part, Run, Locks, Breaks, added_by_with, added_with, report_from_with, said_in}
 use Rattle.recovery_report.specs.Report.{stretches_of}
 use Rattle.recovery_report.proofs.PartLaws as parts
-use Rattle.recovery_report.proofs.Sounds.{sources_begin}
-use Rattle.recovery_laws.proofs.Adding.{PartLies, part_end, quiet}
-use Rattle.recovery_laws.proofs.Guessed.{AllBelow, first_below, near, reads}
+use Rattle.recovery_report.specs.Placing.{PartLies, part_end}
+use Rattle.recovery_report.proofs.Nearing.{AllBelow, first_below, near, reads}
+use Rattle.recovery_report.proofs.Sounds.{quiet, sources_begin}
 
 -- Lists in which each element that follows a leader, if it must, does so: a guess follows a fault.
 module _ {X : Type 0} (follows leads : X → Bool) where

@@ -8,8 +8,6 @@ pub mod Captures
 pub mod Ends
 pub mod Adding
 pub mod Ordering
-pub mod Placing
-pub mod Parting
 pub mod Only
 pub mod Guessed
 pub mod Led

@@ -13,8 +13,9 @@ use Rattle.source_events.proofs.Merges.{one_or_other, part_append, part_told_oth
 use Rattle.stretch_readings.specs.declared.heard.Heard.{Heard}
 use Rattle.recovery_report.specs.Report.{Part, added, events_of, report_from}
 use Rattle.recovery_laws.specs.Order.{port_said}
-use Rattle.recovery_laws.proofs.Adding.{PartLies, part_end}
-use Rattle.recovery_laws.proofs.Ordering.{added_is, end_later, merged}
+use Rattle.recovery_report.specs.Placing.{PartLies, part_end}
+use Rattle.recovery_report.proofs.Placing.{end_later}
+use Rattle.recovery_laws.proofs.Ordering.{added_is, merged}
 
 -- the first event of a source
 module _ {V : Type 0} (x : Option ℕ) where

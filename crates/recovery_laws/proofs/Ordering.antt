@@ -12,24 +12,19 @@ use Rattle.source_events.specs.Merge.{AllIn, InOrder, IsAtMost, IsMerged, Sorted
 use Rattle.source_events.specs.Runs.{id_of}
 use Rattle.source_events.proofs.Merges.{all_weaker, at_most_trans, grown_by, part_append, part_told_other}
 use Rattle.source_events.proofs.Merges.{part_told_own, same_or_not, sorted_told, start_le, told_append}
-use Rattle.source_events.proofs.Running.{end_within}
 use Rattle.stretch_readings.specs.declared.heard.Heard.{Heard}
 use Rattle.stretch_readings.specs.declared.heard.Heard.TheVariants.{Broken}
 use Rattle.recovery_report.specs.Report.{Part, Run, Locks, Breaks, added, added_by, events_of, report_from}
 use Rattle.recovery_laws.specs.Order.{port_said, port_said_in}
-use Rattle.recovery_laws.proofs.Adding.{PartLies, adds, none_first, part_end, whose}
+use Rattle.recovery_report.specs.Placing.{PartLies, part_end}
+use Rattle.recovery_report.proofs.Placing.{end_later}
+use Rattle.recovery_laws.proofs.Adding.{adds, none_first, whose}
 
 abbrev Heards : Type 0
 Heards = List (What (Heard Packet) × Place)
 
 abbrev Events : Type 0
 Events = List (Event (Heard Packet))
-
--- a part ends where it lies, or later
-pub end_later : (n : ℕ) (m : Part) → PartLies n m → n ≤ part_end m
-end_later n (Run run) l = end_within n run l
-end_later n (Locks skipped place) l = (let k : n ≤ place.at = l in let z : n ≤ place.at + 1 = omega arith in z)
-end_later n (Breaks reason place) l = (let k : n ≤ place.at = l in let z : n ≤ place.at + 1 = omega arith in z)
 
 no_source : (x : ℕ) → None ≡ Some x → ⊥
 no_source x e = cc

@@ -23,7 +23,7 @@ same_fault (Said (Misread reason)) g = cc
 same_fault (Raw bytes) g = refl
 same_fault (Trigger byte) g = refl
 
-neither : (a b : Bool) → (a || b) ≡ false → (a ≡ false) × (b ≡ false)
+pub neither : (a b : Bool) → (a || b) ≡ false → (a ≡ false) × (b ≡ false)
 neither true b e = cc
 neither false b e = (refl, e)
 

@@ -3,7 +3,7 @@ use Rattle.std.proofs.Common.{◌≡◌, ℕ, ◌-◌, List, [], ◌∷◌, ◌+
 use Rattle.std.proofs.Common.{append_assoc, Bool, true, false, cond}
 use Rattle.std.specs.Prelude.{filter, not, ◌&&◌, Result, Ok, Err}
 use Rattle.std.specs.List.{All}
-use Rattle.std.proofs.lemmas.List.Elements.{All-nil, All-cons, All-append, filter-append}
+use Rattle.std.proofs.lemmas.List.Elements.{All-nil, All-cons, All-append}
 use Rattle.trace_values.specs.declared.fault.Reason.{Reason}
 use Rattle.trace_values.specs.Placed.{placed}
 use Rattle.source_events.specs.declared.event.Event.{Event}
@@ -17,11 +17,13 @@ use Rattle.source_events.specs.Merge.{place_of}
 use Rattle.capture_actions.specs.Faulty.{is_stp}
 use Rattle.capture_actions.specs.Filtered.{all_lines}
 use Rattle.trace_text.specs.FaultText.{fault_line}
-use Rattle.trace_text.specs.LineText.{event_line}
+use Rattle.trace_text.specs.LineText.{doubted, event_line}
+use Rattle.capture_actions.specs.Guesses.{is_open}
 use Rattle.capture_actions.specs.Listing.{is_listed, itm_packets, meets, remark_of}
+use Rattle.recovery_listing.specs.LineLaws.{sure_push}
 use Rattle.recovery_listing.specs.Listing.{clocked_from, line_of, lines_after, listed, seen_in}
 use Rattle.recovery_listing.specs.Marked.{entry, is_marked, near_entries, near_marked, without_guesses}
-use Rattle.recovery_listing.specs.Near.{doubted, guess_clocked, guess_line, is_open, near_line, near_lines_after}
+use Rattle.recovery_listing.specs.Near.{guess_clocked, guess_line, near_line, near_lines_after}
 use Rattle.recovery_listing.specs.Near.{near_listed}
 use Rattle.recovery_listing.proofs.Plain.{event_unmarked, fault_unmarked, marked_line}
 
@@ -57,11 +59,6 @@ pub all_near : (p : ListPlan) (bytes : List ℕ) → near_listed p bytes ≡ all
 all_near p bytes = lines_are p [] (report_with true p.plan (placed bytes))
 
 -- those of what is sure are those of the listing
-sure_push : (es : Events) (e : Event (Heard Packet)) (g : Bool) → is_guess e.what ≡ g →
-    sure_events (es ++ e ∷ []) ≡ sure_events es ++ cond (not g) (e ∷ []) []
-sure_push es e g q = filter-append (λ (x : Event (Heard Packet)). not (is_guess x.what)) es (e ∷ [])
-    ∙ ap (λ b. sure_events es ++ cond (not b) (e ∷ []) []) q
-
 module _ (p : ListPlan) (before : Events) (e : Event (Heard Packet)) (es : Events) where
   abbrev next : Events
   next = before ++ e ∷ []

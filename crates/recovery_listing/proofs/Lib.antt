@@ -3,6 +3,7 @@ pub mod Counted
 pub mod Putting
 pub mod Taken
 pub mod Guesses
+pub mod Unguessed
 pub mod Plain
-pub mod Texting
-pub mod Valued
+pub mod Noted
+pub mod Kinded

@@ -1,7 +1,7 @@
--- What `show` made of the front of a piece.
+-- What an action over an account made of the front of a piece.
 use Rattle.std.proofs.Common.{◌≡◌, ◌∙◌, ℕ, ◌+◌, [], List, ◌++◌, length, sym, ap, refl, subst, append_assoc}
-use Rattle.std.proofs.Common.{append-nil, length-append, arith, false, take, drop, ◌-◌, ◌≤◌}
-use Rattle.std.proofs.lemmas.List.{length-drop}
+use Rattle.std.proofs.Common.{append-nil, arith, Bool, take, drop, ◌-◌, ◌<◌, ◌≤◌}
+use Rattle.std.proofs.lemmas.List.{length-drop, length-take-le}
 use Rattle.source_merge.proofs.Feds.{tail_of, take_parts}
 use Rattle.trace_values.specs.Placed.{Placed, placed, placed_from}
 use Rattle.trace_values.proofs.Placing.{length-placed_from, placed_append}
@@ -9,17 +9,15 @@ use Rattle.source_events.specs.declared.event.Event.{Event}
 use Rattle.source_events.specs.declared.packet.Packet.{Packet}
 use Rattle.source_events.specs.declared.plan.Plan.{Plan}
 use Rattle.stretch_readings.specs.declared.heard.Heard.{Heard}
-use Rattle.recovery_report.specs.Report.{report}
+use Rattle.recovery_report.specs.Report.{report_with}
 use Rattle.recovery_engine.specs.Engine as reading
+use Rattle.recovery_engine.specs.Front.{TakesFront}
+use Rattle.recovery_engine.specs.declared.engine.Recovery.{Recovery}
 use Rattle.trace_stream.specs.Served.{Meaning}
-use Rattle.trace_stream.specs.Taken.{HasTaken}
-use Rattle.capture_actions.specs.declared.list_plan.ListPlan.{ListPlan}
-use Rattle.recovery_listing.specs.Feeding.{HasFed}
-use Rattle.recovery_listing.specs.LineLaws.{lines_append}
-use Rattle.recovery_listing.specs.Lister as lister
-use Rattle.recovery_listing.specs.Listing.{lines_after, show_meaning}
-use Rattle.recovery_listing.specs.Show.{plan_of, Stands, taken_by}
-use Rattle.recovery_listing.specs.declared.show.RecoveringShow.{RecoveringShow}
+use Rattle.recovery_listing.specs.Account.{GoesOn, HasRead, Pages, TakesOn, events_of}
+use Rattle.recovery_listing.specs.Recovering.{Stands, how_of}
+use Rattle.recovery_listing.specs.declared.recovering.Recovering.{Recovering}
+use Rattle.recovery_listing.specs.declared.going_on.GoingOn.{GoingOn}
 
 -- more bytes of a capture
 pub placed_more : (seen : List ℕ) (at : ℕ) (bytes : List ℕ) → at ≡ length (placed seen) →
@@ -29,82 +27,118 @@ placed_more seen at bytes e =
     ∙ ap (λ (n : ℕ). placed seen ++ placed_from n bytes)
     (let l = length-placed_from 0 seen in let k : length seen ≡ at = omega (arith, l, e) in k)
 
-module _ (old new : RecoveringShow) (at : ℕ) (bytes : List ℕ) (given : List (Event (Heard Packet))) (a b : List ℕ)
-    (at_is : at ≡ taken_by old) (same : reading.plan_of new.engine ≡ reading.plan_of old.engine)
-    (count : taken_by new ≡ taken_by old + length bytes)
-    (list : (u : List Placed) → reading.Stands old.engine u → reading.Stands new.engine (u ++ placed_from at bytes))
-    (grew : (u : List Placed) → reading.Stands old.engine u →
-    report (reading.plan_of old.engine) (u ++ placed_from at bytes) ≡ report (reading.plan_of old.engine) u ++ given)
-    (gets : lister.gets (old.lister, a) given (new.lister, b)) where
-  taken : (seen : List ℕ) → Stands old seen → HasTaken (Stands new) (show_meaning (plan_of old))
-      (record { seen = seen; front = bytes; before = a; after = b }) false
-  taken seen s =
-      let p = plan_of old in
-      let all = seen ++ bytes in
-      let here = placed_more seen at bytes (at_is ∙ s.engine.count) in
-      let said = report p.plan (placed seen) in
-      let more : report p.plan (placed all) ≡ said ++ given =
-      ap (report p.plan) here
-      ∙ subst (λ (q : Plan). report q (placed seen ++ placed_from at bytes) ≡ report q (placed seen) ++ given) s.plan
-      (grew (placed seen) s.engine) in
-      record {
-        read = record {
-          engine = subst (λ (u : List Placed). reading.Stands new.engine u) (sym here) (list (placed seen) s.engine);
-          plan = same ∙ s.plan ∙ sym (ap (λ (q : ListPlan). q.plan) gets.same);
-          lister = subst (λ (q : ListPlan). lister.Stands new.lister (report q.plan (placed all))) (sym gets.same)
-              (subst (λ (l : List (Event (Heard Packet))). lister.Stands new.lister l) (sym more)
-              (gets.stands said s.lister));
-        };
-        more = lines_after p said given;
-        grown = ap (lines_after p []) more ∙ lines_append p [] said given;
-        gained = gets.text said s.lister;
-        fault = λ h. h;
-      }
+-- What an engine took, and gave what hears its events, an account was given.
+module _ {S T : Type 0} (hears : S → List (Event (Heard Packet)) → S → Type 0) (left : S → ℕ)
+    (gets : T → List (Event (Heard Packet)) → T → Type 0) (piece : List ℕ) (taken : ℕ) (old new : Recovery)
+    (a b : S) (s t : T) (took : TakesFront hears left piece taken (old, a) (new, b))
+    (own : (es : List (Event (Heard Packet))) → hears a es b → gets s es t) where
+  abbrev front : List ℕ
+  front = take taken piece
 
-  pub has_fed : HasFed old new bytes a b
-  has_fed = record { same = gets.same; count = count; fed = taken }
+  here : (seen : List ℕ) → HasRead old seen →
+      placed (seen ++ front) ≡ placed seen ++ placed_from (reading.count_of old) front
+  here seen h = placed_more seen (reading.count_of old) front h.count
 
--- no byte
-pub fed_none : (show : RecoveringShow) (a : List ℕ) → HasFed show show [] a a
-fed_none show a = record {
-  same = refl;
-  count = omega arith;
-  fed = λ seen s. record {
-    read = subst (Stands show) (sym (append-nil seen)) s;
-    more = [];
-    grown = ap (show_meaning (plan_of show)).text (append-nil seen) ∙ sym
-        (append-nil ((show_meaning (plan_of show)).text seen));
-    gained = sym (append-nil a);
-    fault = λ h. h;
-  };
-}
+  abbrev reported : List Placed → List (Event (Heard Packet))
+  reported u = report_with (reading.guesses_of old) (reading.plan_of old) u
 
--- two fronts, one after the other
-module _ (old mid new : RecoveringShow) (front next a b c : List ℕ) (first : HasFed old mid front a b)
-    (second : HasFed mid new next b c) where
-  both : (seen : List ℕ) → Stands old seen → HasTaken (Stands new) (show_meaning (plan_of old))
-      (record { seen = seen; front = front ++ next; before = a; after = c }) false
-  both seen s =
-      let one = first.fed seen s in
-      let two = subst (λ (plan : ListPlan). HasTaken (Stands new) (show_meaning plan)
-      (record { seen = seen ++ front; front = next; before = b; after = c }) false) first.same
-      (second.fed (seen ++ front) one.read) in
-      let here : (seen ++ front) ++ next ≡ seen ++ (front ++ next) = append_assoc seen front next in
-      let meaning : Meaning = show_meaning (plan_of old) in
-      record {
-        read = subst (λ (l : List ℕ). Stands new l) here two.read;
-        more = one.more ++ two.more;
-        grown = ap meaning.text (sym here) ∙ two.grown ∙ ap (λ (l : List ℕ). l ++ two.more) one.grown
-            ∙ append_assoc (meaning.text seen) one.more two.more;
-        gained = two.gained ∙ ap (λ (l : List ℕ). l ++ two.more) one.gained ∙ append_assoc a one.more two.more;
-        fault = λ h. h;
-      }
+  abbrev by_plan : Bool → Plan → GoingOn Plan
+  by_plan guesses plan = record { plan = plan; guesses = guesses }
 
-  pub fed_on : HasFed old new (front ++ next) a c
-  fed_on = record {
+  pub takes_on : TakesOn gets front (old, s) (new, t)
+  takes_on = record {
+    same = ap (by_plan (reading.guesses_of new)) took.plan
+        ∙ ap (λ (guesses : Bool). by_plan guesses (reading.plan_of old)) took.guesses;
+    count = took.count ∙ ap (λ (n : ℕ). reading.count_of old + n) (sym (length-take-le taken piece took.bytes.1));
+    read = λ seen h. subst (λ (u : List Placed). reading.Stands new u) (sym (here seen h)) (took.list (placed seen) h);
+    given = (
+      took.given.0,
+      own took.given.0 took.given.1,
+      λ seen h. ap reported (here seen h) ∙ took.given.2 (placed seen) h,
+    );
+  }
+
+-- An action took these bytes, whatever it had taken before.
+pub record Took {S P : Type 0} (plan : S → P) (stands : S → List ℕ → Type 0) (meaning : P → Meaning)
+    (noted : P → List ℕ → List ℕ) (old new : S) (front : List ℕ) (before after : Pages) : Type 0 where
+  pub same : plan new ≡ plan old
+  pub fed : (seen : List ℕ) → stands old seen →
+      GoesOn (stands new) (meaning (plan old)) (noted (plan old)) seen front before after
+
+module _ {S P : Type 0} (plan : S → P) (stands : S → List ℕ → Type 0) (meaning : P → Meaning)
+    (noted : P → List ℕ → List ℕ) where
+  -- no byte
+  pub took_none : (s : S) (before : Pages) → before.notes ≡ [] → Took plan stands meaning noted s s [] before before
+  took_none s before silent = record {
+    same = refl;
+    fed = λ seen h. record {
+      read = subst (stands s) (sym (append-nil seen)) h;
+      more = [];
+      grown = ap (meaning (plan s)).text (append-nil seen) ∙ sym (append-nil ((meaning (plan s)).text seen));
+      gained = sym (append-nil before.text);
+      noted = ap (noted (plan s)) (append-nil seen)
+          ∙ sym (ap (λ (l : List ℕ). noted (plan s) seen ++ l) silent ∙ append-nil (noted (plan s) seen));
+    };
+  }
+
+  -- two fronts, one after the other, of which the first has nothing that is noted
+  pub took_both : (old mid new : S) (front next : List ℕ) (a b c : Pages) → b.notes ≡ [] →
+      Took plan stands meaning noted old mid front a b → Took plan stands meaning noted mid new next b c →
+      Took plan stands meaning noted old new (front ++ next) a c
+  took_both old mid new front next a b c silent first second = record {
     same = second.same ∙ first.same;
-    count = second.count ∙ (let k = first.count in let l = length-append front next in omega (arith, k, l));
-    fed = both;
+    fed = λ seen h.
+        let one = first.fed seen h in
+        let two = subst (λ (p : P). GoesOn (stands new) (meaning p) (noted p) (seen ++ front) next b c) first.same
+        (second.fed (seen ++ front) one.read) in
+        let here : (seen ++ front) ++ next ≡ seen ++ (front ++ next) = append_assoc seen front next in
+        let text : List ℕ → List ℕ = (meaning (plan old)).text in
+        let notes : List ℕ → List ℕ = noted (plan old) in
+        record {
+          read = subst (stands new) here two.read;
+          more = one.more ++ two.more;
+          grown = ap text (sym here) ∙ two.grown ∙ ap (λ (l : List ℕ). l ++ two.more) one.grown
+              ∙ append_assoc (text seen) one.more two.more;
+          gained = two.gained ∙ ap (λ (l : List ℕ). l ++ two.more) one.gained
+              ∙ append_assoc a.text one.more two.more;
+          noted = ap notes (sym here) ∙ two.noted
+              ∙ ap (λ (l : List ℕ). l ++ c.notes)
+              (one.noted ∙ ap (λ (l : List ℕ). notes seen ++ l) silent ∙ append-nil (notes seen));
+        };
+  }
+
+-- What an engine took for an account, the action over it took.
+module _ {A P : Type 0} (asked : A → GoingOn Plan → P) (account : A → GoingOn Plan → List ℕ → Type 0)
+    (meaning : P → Meaning) (noted : P → List ℕ → List ℕ)
+    (gets : (A × Pages) → List (Event (Heard Packet)) → (A × Pages) → Type 0)
+    (same : (old new : A × Pages) (given : List (Event (Heard Packet))) (how : GoingOn Plan) →
+    gets old given new → asked new.0 how ≡ asked old.0 how)
+    (goes_on : (old new : A × Pages) (given : List (Event (Heard Packet))) (how : GoingOn Plan)
+    (seen front : List ℕ) → gets old given new → 0 < length front → old.1.notes ≡ [] →
+    events_of how (seen ++ front) ≡ events_of how seen ++ given → account old.0 how seen →
+    GoesOn (account new.0 how) (meaning (asked old.0 how)) (noted (asked old.0 how)) seen front old.1 new.1)
+    (old new : Recovering A) (front : List ℕ) (a b : Pages) (some : 0 < length front) (silent : a.notes ≡ [])
+    (on : TakesOn gets front (old.engine, (old.account, a)) (new.engine, (new.account, b))) where
+  abbrev plan : Recovering A → P
+  plan s = asked s.account (how_of s)
+
+  pub took_on : Took plan (Stands account) meaning noted old new front a b
+  took_on = record {
+    same = ap (asked new.account) on.same
+        ∙ same (old.account, a) (new.account, b) on.given.0 (how_of old) on.given.1;
+    fed = λ seen s.
+        let on_told = goes_on (old.account, a) (new.account, b) on.given.0 (how_of old) seen front on.given.1 some silent
+        (on.given.2 seen s.read) s.told in
+        record {
+          read = record {
+            read = on.read seen s.read;
+            told = subst (λ (how : GoingOn Plan). account new.account how (seen ++ front)) (sym on.same) on_told.read;
+          };
+          more = on_told.more;
+          grown = on_told.grown;
+          gained = on_told.gained;
+          noted = on_told.noted;
+        };
   }
 
 -- the front of a piece, and what is taken of the rest

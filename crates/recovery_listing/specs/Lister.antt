@@ -4,22 +4,26 @@ use Rattle.source_events.specs.declared.event.Event.{Event}
 use Rattle.source_events.specs.declared.packet.Packet.{Packet}
 use Rattle.source_events.specs.declared.plan.SourceKind.{SourceKind}
 use Rattle.stretch_readings.specs.declared.heard.Heard.{Heard}
+use Rattle.recovery_report.specs.Report.{sure_events}
 use Rattle.capture_actions.specs.declared.list_plan.ListPlan.{ListPlan}
 use Rattle.capture_actions.specs.Filter.{plan_by, HasSeen}
 use Rattle.capture_actions.specs.Lister as strict
 use Rattle.capture_actions.specs.SourceClocks.{AllStand}
-use Rattle.recovery_listing.specs.Listing.{clocked_from, has_fault, lines_after, seen_in}
+use Rattle.recovery_listing.specs.Listing.{clocked_from, has_fault, seen_in}
+use Rattle.recovery_listing.specs.Near.{guess_clocked, near_lines_after}
 use Rattle.recovery_listing.specs.declared.lister.RecoveringLister.{RecoveringLister}
 
 -- what it was asked for
 abbrev pub plan_of : RecoveringLister → ListPlan
 plan_of lister = plan_by lister.lister.plan lister.lister.filter
 
--- its clocks and its window have taken these events, and it knows whether there is a fault among them
+-- Its clocks and its window have taken those of these events that are sure, and it knows whether there is a fault among
+-- them; its clocks of guesses have taken the guesses too.
 pub record Stands (lister : RecoveringLister) (es : List (Event (Heard Packet))) : Type 0 where
-  pub clocks : AllStand lister.lister.clocks (clocked_from [] es)
-  pub seen : HasSeen lister.lister.filter (seen_in es)
-  pub faulty : lister.is_faulty ≡ has_fault es
+  pub clocks : AllStand lister.lister.clocks (clocked_from [] (sure_events es))
+  pub guesses : AllStand lister.guess_clocks (guess_clocked es)
+  pub seen : HasSeen lister.lister.filter (seen_in (sure_events es))
+  pub faulty : lister.is_faulty ≡ has_fault (sure_events es)
 
 -- It put the lines of these events, which follow all that it stands for. An outlet's value is the list of its bytes.
 pub record ListerGets (old : RecoveringLister × List ℕ) (es : List (Event (Heard Packet)))
@@ -27,7 +31,7 @@ pub record ListerGets (old : RecoveringLister × List ℕ) (es : List (Event (He
   pub same : plan_of new.0 ≡ plan_of old.0
   pub stands : (before : List (Event (Heard Packet))) → Stands old.0 before → Stands new.0 (before ++ es)
   pub text : (before : List (Event (Heard Packet))) → Stands old.0 before →
-      new.1 ≡ old.1 ++ lines_after (plan_of old.0) before es
+      new.1 ≡ old.1 ++ near_lines_after (plan_of old.0) before es
 
 abbrev pub gets : RecoveringLister × List ℕ → List (Event (Heard Packet)) → RecoveringLister × List ℕ → Type 0
 gets old es new = ListerGets old es new

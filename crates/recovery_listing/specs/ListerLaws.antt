@@ -4,9 +4,9 @@ use Rattle.source_events.specs.declared.event.Event.{Event}
 use Rattle.source_events.specs.declared.packet.Packet.{Packet}
 use Rattle.stretch_readings.specs.declared.heard.Heard.{Heard}
 use Rattle.capture_actions.specs.declared.list_plan.ListPlan.{ListPlan}
-use Rattle.recovery_listing.specs.LineLaws.{lines_append}
+use Rattle.recovery_listing.specs.LineLaws.{near_append}
 use Rattle.recovery_listing.specs.Lister.{Stands, gets, plan_of}
-use Rattle.recovery_listing.specs.Listing.{lines_after}
+use Rattle.recovery_listing.specs.Near.{near_lines_after}
 use Rattle.recovery_listing.specs.declared.lister.RecoveringLister.{RecoveringLister}
 
 pub gets_none : (s : RecoveringLister × List ℕ) → gets s [] s
@@ -27,8 +27,8 @@ gets_more a b c es fs g h =
           (h.stands (before ++ es) (g.stands before k));
       text = λ before k.
           h.text (before ++ es) (g.stands before k)
-          ∙ ap (λ (q : ListPlan). b.1 ++ lines_after q (before ++ es) fs) g.same
-          ∙ ap (λ (l : List ℕ). l ++ lines_after p (before ++ es) fs) (g.text before k)
-          ∙ append_assoc a.1 (lines_after p before es) (lines_after p (before ++ es) fs)
-          ∙ ap (λ (l : List ℕ). a.1 ++ l) (sym (lines_append p before es fs));
+          ∙ ap (λ (q : ListPlan). b.1 ++ near_lines_after q (before ++ es) fs) g.same
+          ∙ ap (λ (l : List ℕ). l ++ near_lines_after p (before ++ es) fs) (g.text before k)
+          ∙ append_assoc a.1 (near_lines_after p before es) (near_lines_after p (before ++ es) fs)
+          ∙ ap (λ (l : List ℕ). a.1 ++ l) (sym (near_append p before es fs));
     }

@@ -11,7 +11,6 @@ use Rattle.source_events.specs.Merge.{place_of}
 use Rattle.stretch_readings.specs.declared.heard.Heard.{Heard}
 use Rattle.recovering_machines.specs.Hearing.{as_event, as_strict}
 use Rattle.recovery_report.specs.Report.{report, tails_of}
-use Rattle.trace_stream.specs.Served.{Meaning}
 use Rattle.trace_text.specs.EndText.{tails_text}
 use Rattle.trace_text.specs.FaultText.{fault_line}
 use Rattle.capture_actions.specs.declared.list_plan.ListPlan.{ListPlan}
@@ -69,7 +68,3 @@ ending p bytes = tails_text (tails_of p.plan (placed bytes))
 -- the whole listing
 abbrev pub listing : ListPlan → List ℕ → List ℕ
 listing p bytes = listed p bytes ++ ending p bytes
-
--- all that `show` makes of the bytes of a capture: no fault ends it
-abbrev pub show_meaning : ListPlan → Meaning
-show_meaning p = record { faulty = λ bytes. ⊥; text = listed p; ending = ending p; due = false }

@@ -1,22 +1,43 @@
--- What the action of `show` that goes on after faults stands for.
+-- What the account of `show` that goes on after faults stands for, and what it was given.
 use Rattle.std.specs.Prelude.{◌≡◌, ℕ, List}
-use Rattle.trace_values.specs.Placed.{placed}
-use Rattle.recovery_report.specs.Report.{report}
-use Rattle.recovery_engine.specs.Engine as reading
+use Rattle.source_events.specs.declared.event.Event.{Event}
+use Rattle.source_events.specs.declared.packet.Packet.{Packet}
+use Rattle.source_events.specs.declared.plan.Plan.{Plan}
+use Rattle.stretch_readings.specs.declared.heard.Heard.{Heard}
 use Rattle.capture_actions.specs.declared.list_plan.ListPlan.{ListPlan}
+use Rattle.recovery_listing.specs.Account.{Pages, events_of}
 use Rattle.recovery_listing.specs.Lister as lister
-use Rattle.recovery_listing.specs.declared.show.RecoveringShow.{RecoveringShow}
+use Rattle.recovery_listing.specs.Recovering as action
+use Rattle.recovery_listing.specs.Recovering.{how_of}
+use Rattle.recovery_listing.specs.declared.going_on.GoingOn.{GoingOn}
+use Rattle.recovery_listing.specs.declared.lister.RecoveringLister.{RecoveringLister}
+use Rattle.recovery_listing.specs.declared.recovering.Recovering.{Recovering}
 
--- what it was asked for
-abbrev pub plan_of : RecoveringShow → ListPlan
-plan_of show = lister.plan_of show.lister
+-- what is listed of a capture that is read by this plan
+abbrev pub with_plan : Plan → ListPlan → ListPlan
+with_plan plan p = record { plan = plan; only = p.only; window = p.window }
 
--- its engine stands for these bytes, its lister reads by the same plan, and has taken the events of their report
-pub record Stands (show : RecoveringShow) (seen : List ℕ) : Type 0 where
-  pub engine : reading.Stands show.engine (placed seen)
-  pub plan : reading.plan_of show.engine ≡ (plan_of show).plan
-  pub lister : lister.Stands show.lister (report (plan_of show).plan (placed seen))
+-- what is asked of a capture that is read so
+abbrev pub asked : RecoveringLister → GoingOn Plan → GoingOn ListPlan
+asked l how = record { plan = with_plan how.plan (lister.plan_of l); guesses = how.guesses }
 
--- how many bytes it took
-abbrev pub taken_by : RecoveringShow → ℕ
-taken_by show = reading.count_of show.engine
+-- it lists by the plan that is read by, and has taken the events of these bytes
+pub record HasListed (l : RecoveringLister) (how : GoingOn Plan) (seen : List ℕ) : Type 0 where
+  pub plan : (lister.plan_of l).plan ≡ how.plan
+  pub events : lister.Stands l (events_of how seen)
+
+-- the lines of these events were put, and nothing was noted
+pub record ShowGets (old : RecoveringLister × Pages) (es : List (Event (Heard Packet)))
+    (new : RecoveringLister × Pages) : Type 0 where
+  pub listed : lister.gets (old.0, old.1.text) es (new.0, new.1.text)
+  pub silent : new.1.notes ≡ old.1.notes
+
+abbrev pub gets : RecoveringLister × Pages → List (Event (Heard Packet)) → RecoveringLister × Pages → Type 0
+gets old es new = ShowGets old es new
+
+-- what the action was asked for, and what it stands for
+abbrev pub plan_of : Recovering RecoveringLister → GoingOn ListPlan
+plan_of show = asked show.account (how_of show)
+
+abbrev pub Stands : Recovering RecoveringLister → List ℕ → Type 0
+Stands show seen = action.Stands HasListed show seen

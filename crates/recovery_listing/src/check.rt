@@ -1,149 +1,129 @@
 //! `check` that goes on after faults: how many there are, what the port and each source sent, and how the capture ends.
 
-ghost use Rattle.std.specs.Prelude.{◌≡◌, ◌+◌, ◌*◌, ◌<◌, ◌≤◌, ◌++◌, [], ℕ, List, length, take};
+ghost use Rattle.std.specs.Prelude.{◌≡◌, ◌+◌, ◌*◌, ◌<◌, ◌≤◌, ◌++◌, [], ℕ, List, length};
 ghost use Rattle.trace_stream.specs.declared.limits.TheConstants.{GREATEST_CAPTURE};
-ghost use Rattle.trace_values.specs.Placed.{Placed};
-ghost use Rattle.capture_actions.specs.Summary.{source_text, sources_text};
-ghost use Rattle.recovery_engine.specs.Counted as reading;
-ghost use Rattle.recovery_report.specs.Counts.{source_counts_of};
+ghost use Rattle.recovery_engine.specs.Heard.{heard_of};
 
-use capture_actions::{SOURCE_ROOM, SUMMARY_ROOM, put_source_line};
-use recovery_engine::CountingRecovery;
+use crate::account::Account;
+use crate::counting::{put_head, put_sources};
+use crate::recovering::Recovering;
+use capture_actions::SUMMARY_ROOM;
+use recovery_engine::{HeardCounts, Recovery};
 use source_events::Plan;
-use trace_stream::{Action, OUTLET_ROOM, Outlet, Progress, TEXT_ROOM};
-use trace_text::{FaultCountLine, PortCountsLines, print_tails};
-use trace_values::{ID_COUNT, SourceId};
+use trace_stream::{OUTLET_ROOM, Outlet, TEXT_ROOM};
+use trace_text::print_tails;
 
-/// The reading of a capture that goes on after each fault.
+/// What is counted of a recovering report: the items of each source, and the faults.
 #[derive(Drop)]
-pub struct RecoveringCheck {
-    engine: CountingRecovery,
+pub struct Tally {
+    pub(crate) heard: HeardCounts,
+    /// How many bytes the report is of.
+    pub(crate) bytes: u64,
+    ghost few: { heard_of heard ≤ 30 * bytes },
+    ghost limit: { bytes ≤ GREATEST_CAPTURE },
 }
 
-/// The line of the source of this number, if it sent a byte.
-fn put_source(outlet: &mut Outlet, number: u8, engine: &CountingRecovery)
-    requires source { number ≤ 126 }
-    requires room { length outlet.old + TEXT_ROOM ≤ OUTLET_ROOM }
-    ensures text { (u : List Placed) → reading.Stands engine.now u →
-        outlet.new ≡ outlet.old ++ source_text number (source_counts_of (reading.plan_of engine.now) u number) }
-    ensures bound { length outlet.new ≤ length outlet.old + SOURCE_ROOM }
-{
-    match SourceId::new(number) {
-        Some(id) => put_source_line(outlet, id, engine.counts(id)),
-        None => {}
-    }
-}
+/// The summary of a capture that goes on after each fault.
+pub type RecoveringCheck = Recovering<Tally>;
 
-/// The lines of all sources that sent a byte, in the order of their IDs.
-fn put_sources(outlet: &mut Outlet, engine: &CountingRecovery)
-    requires room { length outlet.old + ID_COUNT * SOURCE_ROOM + TEXT_ROOM ≤ OUTLET_ROOM }
-    ensures text { (u : List Placed) → reading.Stands engine.now u →
-        outlet.new ≡ outlet.old ++ sources_text (source_counts_of (reading.plan_of engine.now) u) ID_COUNT }
-    ensures bound { length outlet.new ≤ length outlet.old + ID_COUNT * SOURCE_ROOM }
-{
-    for number in 0..ID_COUNT as u8 {
-        put_source(outlet, number, engine);
-    }
-}
-
-impl RecoveringCheck {
+impl Recovering<Tally> {
     ghost use Rattle.source_events.specs.declared.plan.Plan.{Plan};
-    ghost use Rattle.recovery_listing.specs.Check.{Stands, plan_of, taken_by};
-    ghost use Rattle.recovery_listing.specs.Listing.{is_faulty};
-    ghost use Rattle.recovery_listing.specs.Summary.{summary};
+    ghost use Rattle.recovery_listing.specs.Check.{IsLive, Stands, plan_of};
+    ghost use Rattle.recovery_listing.specs.Recovering.{taken_by};
 
     /// Nothing is read yet.
     pub fn new(plan: Plan) -> RecoveringCheck
         ensures plan { plan_of result ≡ plan }
         ensures stands { Stands result [] }
         ensures count { taken_by result ≡ 0 }
+        ensures live { IsLive result }
     {
-        RecoveringCheck {
-            engine: CountingRecovery::new(plan),
+        let account = Tally {
+            heard: HeardCounts::new(),
+            bytes: 0,
+        };
+        Recovering {
+            account,
+            engine: Recovery::new(plan, false),
         }
-    }
-
-    /// The report of the bytes that were taken has a fault.
-    pub fn is_faulty(&self) -> bool
-        ensures { (seen : List ℕ) → Stands self.now seen → result ≡ is_faulty (plan_of self.now) seen }
-    {
-        self.engine.faults() != 0
-    }
-
-    /// Takes bytes from the front of a piece, as the engine does, and answers how many. The piece has a byte.
-    fn take(&mut self, piece: &[u8]) -> usize
-        requires some { 0 < length piece.now }
-        requires count { taken_by self.old + length piece.now ≤ GREATEST_CAPTURE }
-        ensures bytes { (0 < result) × (result ≤ length piece.now) }
-        ensures same { plan_of self.new ≡ plan_of self.old }
-        ensures count { taken_by self.new ≡ taken_by self.old + result }
-        ensures list { (seen : List ℕ) → Stands self.old seen → Stands self.new (seen ++ take result piece.now) }
-    {
-        let at = self.engine.next();
-        self.engine.take(at, piece)
-    }
-
-    /// Puts the summary of the bytes that were taken.
-    fn put_summary(&self, outlet: &mut Outlet)
-        requires room { length outlet.old + SUMMARY_ROOM + TEXT_ROOM ≤ OUTLET_ROOM }
-        ensures { (seen : List ℕ) → Stands self.now seen → outlet.new ≡ outlet.old ++ summary (plan_of self.now) seen }
-    {
-        let faults = self.engine.faults();
-        outlet.put(&FaultCountLine { faults });
-        let counts = self.engine.port_counts();
-        outlet.put(&PortCountsLines {
-            fulls: counts.fulls,
-            halves: counts.halves,
-            frames: counts.frames,
-        });
-        put_sources(outlet, &self.engine);
-        print_tails(outlet, &self.engine.finish());
     }
 }
 
-impl Action for RecoveringCheck {
-    ghost use Rattle.std.specs.Prelude.{⊤};
-    ghost use Rattle.trace_stream.specs.Debt.{Paid};
+impl Tally {
+    ghost use Rattle.recovery_listing.specs.Counting.{HasTallied, plan_of};
+    ghost use Rattle.recovery_listing.specs.Summary.{summary};
+
+    /// Puts the summary of the bytes that were read.
+    fn put_summary(&self, engine: &Recovery, outlet: &mut Outlet)
+        requires room { length outlet.old + SUMMARY_ROOM + TEXT_ROOM ≤ OUTLET_ROOM }
+        ensures { (seen : List ℕ) → HasTallied engine.now self.now.heard seen →
+            outlet.new ≡ outlet.old ++ summary (plan_of engine.now) seen }
+    {
+        put_head(outlet, engine, &self.heard);
+        put_sources(outlet, engine, &self.heard);
+        print_tails(outlet, &engine.finish());
+    }
+}
+
+/// Nothing is written before the end.
+impl Account for Tally {
+    ghost use Rattle.std.specs.Prelude.{refl};
     ghost use Rattle.source_events.specs.declared.plan.Plan.{Plan};
-    ghost use Rattle.recovery_listing.specs.Check.{Stands, plan_of, taken_by};
+    ghost use Rattle.trace_stream.specs.Debt.{Paid};
+    ghost use Rattle.recovery_listing.specs.Check.{HasCounted, IsAt, asked, gets};
+    ghost use Rattle.recovery_listing.specs.CheckLaws.{goes_on, same};
     ghost use Rattle.recovery_listing.specs.MeaningLaws.{check_lawful};
     ghost use Rattle.recovery_listing.specs.Summary.{check_meaning};
 
-    type Plan = Plan;
+    type Asked = Plan;
 
-    ghost plan = { plan_of };
+    ghost asked = { asked };
 
-    ghost live = { λ check. ⊤ };
+    ghost capture = { λ plan. plan };
 
-    ghost taken = { taken_by };
+    ghost stands = { HasCounted };
 
-    ghost stands = { Stands };
+    ghost live = { IsAt };
 
     ghost debt = { λ _. Paid };
+
+    ghost gets = { gets };
 
     ghost meaning = { check_meaning };
 
     ghost lawful = { check_lawful };
+
+    ghost sound = { λ asked bytes h. h };
+
+    ghost captured = { λ account how. refl };
+
+    ghost same = { same };
+
+    ghost goes_on = { goes_on };
+
+    fn has_fault(&self) -> bool {
+        self.heard.faults() != 0
+    }
+
+    fn take(
+        &mut self,
+        engine: &mut Recovery,
+        piece: &[u8],
+        _outlet: &mut Outlet,
+        _notes: &mut Outlet,
+    ) -> usize {
+        let taken = engine.take(piece, &mut self.heard, &mut ());
+        self.bytes += taken as u64;
+        taken
+    }
 
     #[inline]
     fn pour(&mut self, _outlet: &mut Outlet) -> bool {
         false
     }
 
-    /// Takes the whole piece.
-    fn feed(&mut self, piece: &[u8], _outlet: &mut Outlet, _notes: &mut Outlet) -> Progress {
-        let mut done = 0;
-        while done < piece.len() {
-            done += self.take(&piece[done..]);
-        }
-        Progress {
-            bytes: piece.len(),
-            is_faulty: false,
-        }
-    }
-
-    fn finish(&mut self, outlet: &mut Outlet) {
-        self.put_summary(outlet);
+    fn finish(&mut self, engine: &Recovery, outlet: &mut Outlet) {
+        self.put_summary(engine, outlet);
     }
 
     fn is_due(&self) -> bool {

@@ -1,9 +1,24 @@
 //! What puts the lines of a recovering report into an outlet, as its events come.
 
-ghost use Rattle.std.specs.Prelude.{◌≡◌, [], List};
-ghost use Rattle.recovering_machines.specs.Hearing.{as_strict};
+ghost use Rattle.std.specs.Prelude.{◌≡◌, ◌+◌, ◌<◌, ◌≤◌, ◌++◌, ◌∷◌, [], List, Ok, Some, false, true, not};
+ghost use Rattle.itm_grammar.specs.declared.packet.ItmPacket.{ItmPacket};
+ghost use Rattle.stp_grammar.specs.declared.said.Said.{Said as StpSaid};
+ghost use Rattle.source_events.specs.declared.event.Event.{Event};
+ghost use Rattle.source_events.specs.declared.event.What.{What};
+ghost use Rattle.source_events.specs.declared.event.What.TheVariants.{Packet as Said};
+ghost use Rattle.source_events.specs.declared.packet.Packet.{Packet};
+ghost use Rattle.source_events.specs.declared.packet.Packet.TheVariants.{Itm};
+ghost use Rattle.source_events.specs.Fitting.{EventFits, PacketFits};
+ghost use Rattle.source_events.specs.Report.{is_item};
+ghost use Rattle.source_machine.specs.Finding.{ToldFits};
+ghost use Rattle.source_machine.specs.declared.packets.Told.TheVariants.{Itm as SaysItm, Stp as SaysStp};
+ghost use Rattle.stretch_readings.specs.declared.heard.Heard.{Heard};
+ghost use Rattle.recovering_machines.specs.Hearing.{as_event, as_strict, is_guess};
+ghost use Rattle.capture_actions.specs.Listing.{itm_packet};
+ghost use Rattle.capture_actions.specs.SourceClocks.{AllStand};
+ghost use Rattle.recovery_listing.specs.Near.{guess_clocked_by};
 
-use capture_actions::Lister;
+use capture_actions::{Lister, SourceClocks};
 use item_tap::{Bounds, Choices};
 use recovering_machines::Hearer;
 use source_events::{Event, Packet, Plan, SourceKind, Stop, What};
@@ -13,12 +28,21 @@ use stretch_readings::Heard;
 use trace_stream::Outlet;
 use trace_values::{Fault, Reason, SourceId};
 
-/// Puts the lines of events that are listed, and of all faults.
+/// Puts the lines of events that are listed, and of all faults; those of guesses with their mark.
 #[derive(Drop)]
 pub struct RecoveringLister {
     lister: Lister,
-    /// A fault came.
+    /// The clocks of guesses. They take what is sure, too, and go on over a fault.
+    guess_clocks: SourceClocks,
+    /// A fault came that is no guess.
     is_faulty: bool,
+}
+
+/// It is a guess.
+fn is_guess(what: &What<Heard<Packet>>) -> bool
+    ensures { result ≡ is_guess what.now }
+{
+    matches!(what, What::Packet(Heard::Guessed(_) | Heard::Misread(_)))
 }
 
 /// What an event is in a strict report, or the reason of its fault.
@@ -36,13 +60,52 @@ pub(crate) fn strictly(what: What<Heard<Packet>>) -> Result<What<Packet>, Reason
     }
 }
 
+/// It is the notice of a lock, and no item.
+fn is_lock(what: &What<Packet>) -> bool
+    ensures { result ≡ not (is_item what.now) }
+{
+    matches!(what, What::Locked(_))
+}
+
+/// The clocks of guesses take an event that is sure: at the lock of a source its clocks begin anew, at one of the port
+/// those of all.
+fn take_sure(clocks: &mut SourceClocks, event: &Event<Packet>)
+    requires fits { EventFits PacketFits event.now }
+    ensures { (es : List (Event Packet)) (e : Event (Heard Packet)) (what : What Packet) →
+        event.now ≡ as_event e what → AllStand clocks.old es → AllStand clocks.new (guess_clocked_by es e (Ok what)) }
+{
+    if is_lock(&event.what) {
+        clocks.renew(event.source);
+    } else {
+        let _ = clocks.remark(event);
+    }
+}
+
+/// They take what a packet of this source says.
+#[inline(always)]
+fn take_told(clocks: &mut SourceClocks, source: SourceId, told: &Told)
+    requires fits { ToldFits told.now }
+    ensures itm { (packet : ItmPacket) (es : List (Event Packet)) (event : Event Packet) →
+        told.now ≡ SaysItm packet → event.source ≡ Some source → event.what ≡ Said (Itm packet) →
+        AllStand clocks.old es → AllStand clocks.new (es ++ event ∷ []) }
+    ensures stp { (said : StpSaid) (es : List (Event Packet)) (event : Event Packet) →
+        told.now ≡ SaysStp said → itm_packet event.what ≡ [] →
+        AllStand clocks.old es → AllStand clocks.new (es ++ event ∷ []) }
+{
+    match told {
+        Told::Itm(packet) => {
+            let _ = clocks.packet_remark(source, packet);
+        }
+        Told::Stp(_) => clocks.pass(),
+    }
+}
+
 impl RecoveringLister {
     ghost use Rattle.item_tap.specs.declared.bounds.Bounds.{Bounds};
     ghost use Rattle.item_tap.specs.declared.choice.Choice.{Choice};
-    ghost use Rattle.source_events.specs.declared.event.Event.{Event};
-    ghost use Rattle.source_events.specs.declared.packet.Packet.{Packet};
-    ghost use Rattle.stretch_readings.specs.declared.heard.Heard.{Heard};
-    ghost use Rattle.recovery_listing.specs.Lister.{Stands, plan_of};
+    ghost use Rattle.recovering_machines.specs.Hearing.{HeardFits};
+    ghost use Rattle.recovery_report.specs.Report.{sure_events};
+    ghost use Rattle.recovery_listing.specs.Lister.{Stands, gets, plan_of, room};
     ghost use Rattle.recovery_listing.specs.Listing.{has_fault};
 
     /// No event came yet. It lists those of a capture that is read so which meet one of some choices, if there are any,
@@ -53,19 +116,77 @@ impl RecoveringLister {
     {
         RecoveringLister {
             lister: Lister::new(plan, only, window),
+            guess_clocks: SourceClocks::new(),
             is_faulty: false,
         }
     }
 
-    /// A fault came.
+    /// A fault came that is no guess.
     pub fn is_faulty(&self) -> bool
-        ensures { (es : List (Event (Heard Packet))) → Stands self.now es → result ≡ has_fault es }
+        ensures { (es : List (Event (Heard Packet))) → Stands self.now es → result ≡ has_fault (sure_events es) }
     {
         self.is_faulty
     }
+
+    /// Takes the next event, which is sure.
+    fn hear_sure(&mut self, outlet: &mut Outlet, event: Event<Heard<Packet>>)
+        requires fits { HeardFits event }
+        requires sure { is_guess event.what ≡ false }
+        requires room { 0 < room (self.old, outlet.old) }
+        ensures gets { gets (self.old, outlet.old) (event ∷ []) (self.new, outlet.new) }
+        ensures room { room (self.old, outlet.old) ≤ room (self.new, outlet.new) + 1 }
+    {
+        let (at, half, source) = (event.at, event.half, event.source);
+        match strictly(event.what) {
+            Ok(what) => {
+                let event = Event {
+                    at,
+                    half,
+                    source,
+                    what,
+                };
+                take_sure(&mut self.guess_clocks, &event);
+                self.lister.give(outlet, event);
+            }
+            Err(reason) => {
+                let fault = Fault { at, half, reason };
+                self.lister.put_fault(outlet, &Stop { fault, source });
+                self.is_faulty = true;
+            }
+        }
+    }
+
+    /// Takes the next event, which is a guess.
+    #[inline(never)]
+    fn hear_guess(&mut self, outlet: &mut Outlet, event: Event<Heard<Packet>>)
+        requires fits { HeardFits event }
+        requires guess { is_guess event.what ≡ true }
+        requires room { 0 < room (self.old, outlet.old) }
+        ensures gets { gets (self.old, outlet.old) (event ∷ []) (self.new, outlet.new) }
+        ensures room { room (self.old, outlet.old) ≤ room (self.new, outlet.new) + 1 }
+    {
+        let (at, half, source) = (event.at, event.half, event.source);
+        match strictly(event.what) {
+            Ok(what) => {
+                let event = Event {
+                    at,
+                    half,
+                    source,
+                    what,
+                };
+                self.lister
+                    .put_guess(outlet, &mut self.guess_clocks, &event);
+            }
+            Err(reason) => {
+                let fault = Fault { at, half, reason };
+                self.lister.put_misread(outlet, &Stop { fault, source });
+            }
+        }
+    }
 }
 
-/// An event goes to the outlet as its line, if it is listed. Neither the choices nor the window are asked of a fault.
+/// An event goes to the outlet as its line, if it is listed. Neither the choices nor the window are asked of a fault, and
+/// the window does not see a guess.
 impl Hearer for RecoveringLister {
     ghost use Rattle.recovery_listing.specs.Lister.{Lists, gets, room};
     ghost use Rattle.recovery_listing.specs.ListerLaws.{gets_more, gets_none};
@@ -83,22 +204,10 @@ impl Hearer for RecoveringLister {
     ghost gets_more = { gets_more };
 
     fn hear(&mut self, outlet: &mut Outlet, event: Event<Heard<Packet>>) {
-        let (at, half, source) = (event.at, event.half, event.source);
-        match strictly(event.what) {
-            Ok(what) => {
-                let event = Event {
-                    at,
-                    half,
-                    source,
-                    what,
-                };
-                self.lister.give(outlet, event);
-            }
-            Err(reason) => {
-                let fault = Fault { at, half, reason };
-                self.lister.put_fault(outlet, &Stop { fault, source });
-                self.is_faulty = true;
-            }
+        if is_guess(&event.what) {
+            self.hear_guess(outlet, event);
+        } else {
+            self.hear_sure(outlet, event);
         }
     }
 
@@ -114,16 +223,19 @@ impl Hearer for RecoveringLister {
 
     #[inline(always)]
     fn hear_told(&mut self, outlet: &mut Outlet, at: u64, half: u8, source: SourceId, told: Told) {
+        take_told(&mut self.guess_clocks, source, &told);
         self.lister.give_told(outlet, at, half, source, told);
     }
 
     #[inline(always)]
     fn hear_raw(&mut self, outlet: &mut Outlet, at: u64, source: SourceId, bytes: &[u8]) {
+        self.guess_clocks.pass();
         self.lister.give_raw(outlet, at, source, bytes);
     }
 
     #[inline(always)]
     fn hear_trigger(&mut self, outlet: &mut Outlet, at: u64, source: SourceId, byte: u8) {
+        self.guess_clocks.pass();
         self.lister.give_trigger(outlet, at, source, byte);
     }
 }

@@ -6,4 +6,8 @@ pub mod Rises
 pub mod Hearing
 pub mod Singles
 pub mod Guesses
+pub mod Items
+pub mod Placing
+pub mod Parting
+pub mod Nearing
 pub mod Sure

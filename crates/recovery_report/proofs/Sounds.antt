@@ -20,6 +20,7 @@ use Rattle.stp_grammar.specs.declared.packet.StpPacket.TheVariants.{Async}
 use Rattle.stp_grammar.specs.declared.partial.Partial.TheVariants.{Start}
 use Rattle.stp_grammar.specs.Rule.{rule as stp_rule}
 use Rattle.stp_codec.specs.Reading.{pattern as stp_pattern}
+use Rattle.source_events.specs.declared.plan.Plan.{Plan}
 use Rattle.source_events.specs.declared.plan.SourceKind.{SourceKind}
 use Rattle.source_events.specs.declared.plan.SourceKind.TheVariants.{Itm, Stp}
 use Rattle.source_machine.specs.Units.{reads_by}
@@ -44,6 +45,13 @@ sources_begin order Itm false = refl
 sources_begin order Itm true = refl
 sources_begin order Stp false = refl
 sources_begin order Stp true = refl
+
+-- and says nothing
+pub quiet : (plan : Plan) (kind : SourceKind) (h : Bool) → (reads_by plan.order kind h []).given ≡ []
+quiet plan Itm false = refl
+quiet plan Itm true = refl
+quiet plan Stp false = refl
+quiet plan Stp true = refl
 
 pub port_begins : (h : Bool) → (items_by h []).fault ≡ None
 port_begins false = refl

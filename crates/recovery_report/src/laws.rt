@@ -7,8 +7,10 @@ ghost use Rattle.trace_values.specs.declared.fault.Reason.{Reason};
 ghost use Rattle.trace_values.specs.Placed.{Place, Placed, byte_at};
 ghost use Rattle.trace_values.specs.Stream.{Said, Kept};
 ghost use Rattle.deformatter.specs.declared.step.PortStep.{PortStep};
+ghost use Rattle.trace_values.specs.declared.reading_modes.FramesMode.{FramesMode};
 ghost use Rattle.deformatter.specs.Growth.{PortGrows};
 ghost use Rattle.deformatter.specs.Reading.{cells_in, port_stream};
+ghost use Rattle.deformatter.specs.Rising.{BytesRise};
 ghost use Rattle.recovering_machines.specs.Port.{items_by, from_halfword};
 ghost use Rattle.source_events.specs.declared.packet.Packet.{Packet};
 ghost use Rattle.source_events.specs.declared.plan.Plan.{Plan};
@@ -21,7 +23,8 @@ ghost use Rattle.stretch_readings.specs.declared.heard.Heard.TheVariants.{Broken
 ghost use Rattle.stretch_readings.specs.Words.{Goes, IsSettling, IsSound};
 ghost use Rattle.stretch_readings.specs.Stretches.{One, Stretches, fed, from_fault, heard, parted, recovering};
 ghost use Rattle.stretch_readings.specs.Stretches.{stretches};
-ghost use Rattle.recovery_report.specs.Port.{of_stretches};
+ghost use Rattle.recovery_report.specs.Placing.{PartsBetween};
+ghost use Rattle.recovery_report.specs.Port.{of_stretches, recovered};
 ghost use Rattle.source_machine.specs.Units.{reads_by};
 ghost use Rattle.recovery_report.specs.Report.{Part, Run, Locks, Breaks, added_with, parts_in, report_from_with};
 ghost use Rattle.recovery_report.specs.Report.{stretches_of};
@@ -58,6 +61,12 @@ pub fn port_law()
         ≡ cells_in (port_stream r.now.hunts r.now.units) ++ cells →
         parts_in (of_stretches (fed items_by from_halfword r (One (byte_at at byte)))) ≡
         parts_in (of_stretches r) ++ parts_by r.now.count at step cells }
+{}
+
+/// The parts of bytes at rising offsets lie one after the other, where the bytes do.
+pub fn placing_law()
+    ensures { (mode : FramesMode) (n k : ℕ) (u : List Placed) → BytesRise n k u →
+        PartsBetween n k (parts_in (recovered mode u)) }
 {}
 
 /// The stretches of a source's units, and those of a port's bytes, are those that `Goes` says in words.

@@ -1,16 +1,10 @@
 -- The words of all items: they are words, few, have their shape and read as their item; and words that read as an item
 -- are that item's, in lower case.
-use Rattle.std.proofs.Common.{◌≡◌, ℕ, ◌≤◌, ◌<◌, List, ◌∷◌, length, ◌∙◌, ap, true, Some}
-use Rattle.std.specs.Prelude.{option_map}
+use Rattle.std.proofs.Common.{◌≡◌, ℕ, ◌≤◌, ◌<◌, List, ◌∷◌, length, ◌∙◌, ap, true, Some, option_map}
+use Rattle.script_laws.specs.Names.{Shape, Item, Itm, Dwt, Stp, Raw, IsSayable, fields_of, fits, shape_named, itm_of}
+use Rattle.script_laws.specs.Names.{dwt_of, stp_of, item_of, said_in, itm_row, dwt_row, stp_row, raw_row}
 use Rattle.dwt_packets.proofs.Inverses.{in_range}
-use Rattle.script_text.specs.declared.shapes.Shape.{Shape}
 use Rattle.script_text.specs.declared.shapes.Shape.TheVariants as shapes
-use Rattle.script_text.specs.declared.items.Item.{Item}
-use Rattle.script_text.specs.declared.items.Item.TheVariants.{Itm, Dwt, Stp, Raw}
-use Rattle.script_text.specs.Said.{IsSayable}
-use Rattle.script_text.specs.Shapes.{fields_of, fits, shape_named}
-use Rattle.script_text.specs.Items.{itm_of, dwt_of, stp_of, item_of}
-use Rattle.script_text.specs.Table.{said_in, itm_row, dwt_row, stp_row, raw_row}
 use Rattle.script_text.proofs.Options.{some_of, map_some}
 use Rattle.script_laws.proofs.Fields.{low, row_reads, row_all, row_few, row_says}
 use Rattle.script_laws.proofs.Fitting.{itm_checked, dwt_checked, stp_checked, raw_checked, word_of_shape}

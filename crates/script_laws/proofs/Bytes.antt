@@ -1,43 +1,23 @@
 -- The bytes that the lines of a script put, by source.
-use Rattle.std.proofs.Common.{◌≡◌, ℕ, ◌≤◌, List, [], ◌∷◌, ◌++◌, refl, sym, ◌∙◌, ap, subst, arith, Bool, true, false}
-use Rattle.std.proofs.Common.{append-nil, append_assoc, Option, None, Some, Ok}
-use Rattle.std.specs.Prelude.{◌==◌, ◌||◌, flat_map, if◌then◌else◌}
-use Rattle.std.specs.List.{All}
+use Rattle.std.proofs.Common.{◌≡◌, ℕ, List, [], ◌∷◌, ◌++◌, refl, sym, ◌∙◌, ap, subst, arith, Bool, true, false}
+use Rattle.std.proofs.Common.{append-nil, append_assoc, Option, None, Some, Ok, ◌==◌, ◌||◌, flat_map, if◌then◌else◌}
 use Rattle.std.proofs.lemmas.Bool.Decides.{nat_tests}
 use Rattle.std.proofs.lemmas.List.Concat.{flat_map-append}
-use Rattle.std.proofs.lemmas.List.Elements.{All-nil, All-cons, All-append, All-push}
-use Rattle.itm_grammar.specs.declared.packet.ItmPacket.{ItmPacket}
-use Rattle.itm_grammar.specs.Proper.{IsProper}
-use Rattle.itm_grammar.specs.Shortest.{short}
+use Rattle.script_laws.specs.Names.{ItmPacket, IsProper, short, packets_for, nibbles_after, nibbles_for, written}
+use Rattle.script_laws.specs.Names.{end_bytes, encoded, Tagged, joined, Plan, SourceKind, kind_of, are_sound, is_sound}
+use Rattle.script_laws.specs.Names.{Item, Itm, Dwt, Stp, Raw, Line, Nothing, Of, Line2, One, Flush, Trigger, taken_by}
+use Rattle.script_laws.specs.Names.{IsSayable, IsSaid2, by_item, packets_of, packets_by, given_packets, items_of}
+use Rattle.script_laws.specs.Names.{items_by, given_items, puts_by, given_puts, raw_of, bytes_by, given_bytes}
+use Rattle.script_laws.specs.Names.{item_bytes, tagged, ends_with, in_order, line_bytes, segments_of, script_segments}
 use Rattle.dwt_packets.proofs.Inverses.{name_of_packet, in_range}
 use Rattle.stp_grammar.specs.declared.packet.Order.{Order}
 use Rattle.stp_grammar.specs.declared.packet.StpPacket.{StpPacket}
-use Rattle.stp_encoder.specs.Puts.{Put, items_in, unmarked}
-use Rattle.stp_encoder.specs.Puts.{Of as PutOf, Flush as FlushPut}
-use Rattle.stp_encoder.specs.Packets.{packets_for}
-use Rattle.stp_encoder.specs.Bytes.{nibbles_after, nibbles_for, written, end_bytes, encoded, joined as joined_nibbles, filled}
+use Rattle.stp_encoder.specs.Puts.{Put, items_in, unmarked, Of as PutOf, Flush as FlushPut}
+use Rattle.stp_encoder.specs.Bytes.{joined as joined_nibbles, filled}
 use Rattle.stp_encoder.proofs.Joining.{filled_append}
 use Rattle.stp_encoder.proofs.Standing.{written_more, written_flush}
-use Rattle.frame_writer.specs.Written.{Tagged, joined}
-use Rattle.frame_writer.specs.ReadBack.{IsOfSource}
-use Rattle.source_events.specs.declared.plan.Plan.{Plan}
-use Rattle.source_events.specs.declared.plan.SourceKind.{SourceKind}
 use Rattle.source_events.specs.declared.plan.SourceKind.TheVariants as kinds
-use Rattle.source_events.specs.Plan.{kind_of, are_sound, is_sound}
-use Rattle.script_text.specs.declared.items.Item.{Item}
-use Rattle.script_text.specs.declared.items.Item.TheVariants.{Itm, Dwt, Stp, Raw}
-use Rattle.script_text.specs.declared.lines.Line.{Line}
-use Rattle.script_text.specs.declared.lines.Line.TheVariants.{Nothing, Of}
-use Rattle.script_text.specs.declared.version_two.Line2.{Line2}
-use Rattle.script_text.specs.declared.version_two.Line2.TheVariants.{One, Flush, Trigger}
-use Rattle.script_text.specs.Lines.{taken_by}
-use Rattle.script_text.specs.Said.{IsSayable}
-use Rattle.script_text.specs.VersionTwo.{IsSaid2}
-use Rattle.script_rebuild.specs.Script.{by_item, packets_of, packets_by, given_packets, items_of, items_by, given_items}
-use Rattle.script_rebuild.specs.Script.{puts_by, given_puts, raw_of, bytes_by, given_bytes, item_bytes, tagged, ends_with, in_order}
-use Rattle.port_formatter.specs.Segments.{Segments, no_segments, with_bytes, now_ended}
-use Rattle.script_rebuild.specs.Segments.{line_bytes, after_line, with_line}
-use Rattle.script_rebuild.specs.Segments.{segments_after, segments_of, script_segments}
+use Rattle.port_formatter.specs.Segments.{now_ended}
 use Rattle.script_rebuild.proofs.AllSegments.{joined_with, joined_more, given_more, items_put}
 use Rattle.script_rebuild.proofs.InOrder.{in_order_sound}
 use Rattle.script_laws.specs.Puts.{CanAllBePut}
@@ -48,16 +28,9 @@ use Rattle.script_laws.proofs.MappedIds.{is_one, sound_first, sound_back, stp_in
 abbrev HasKind : Option SourceKind → Item → Type 0
 HasKind (Some kinds.Itm) (Itm p) = Unit {0}
 HasKind (Some kinds.Itm) (Dwt d) = Unit {0}
-HasKind (Some kinds.Itm) (Stp item) = ⊥
-HasKind (Some kinds.Itm) (Raw bytes) = ⊥
-HasKind (Some kinds.Stp) (Itm p) = ⊥
-HasKind (Some kinds.Stp) (Dwt d) = ⊥
 HasKind (Some kinds.Stp) (Stp item) = Unit {0}
-HasKind (Some kinds.Stp) (Raw bytes) = ⊥
-HasKind None (Itm p) = ⊥
-HasKind None (Dwt d) = ⊥
-HasKind None (Stp item) = ⊥
 HasKind None (Raw bytes) = Unit {0}
+HasKind kind item = ⊥
 
 taken_kind : (kind : Option SourceKind) (id : ℕ) (item : Item) (line : Line) → taken_by kind id item ≡ Ok line → HasKind kind item
 taken_kind (Some kinds.Itm) id (Itm p) line e = tt
@@ -215,8 +188,7 @@ module _ (plan : Plan) (x : ℕ) (sound : is_sound plan ≡ true) where
   item_spelled : (before : List Put) (item : Item) → HasKind (Some kinds.Itm) item → item_bytes plan.order before item ≡ spelled (packets_of item)
   item_spelled before (Itm p) h = sym (append-nil (short p))
   item_spelled before (Dwt d) h = sym (append-nil (item_bytes plan.order before (Dwt d)))
-  item_spelled before (Stp item) h = absurd h
-  item_spelled before (Raw bytes) h = absurd h
+  item_spelled before item h = absurd h
 
   choose_spelled : (v : Bool) (packets : List ItmPacket) → (if v then spelled packets else []) ≡ spelled (if v then packets else [])
   choose_spelled true packets = refl
@@ -241,9 +213,7 @@ module _ (plan : Plan) (x : ℕ) (sound : is_sound plan ≡ true) where
   -- bytes
   item_raw : (before : List Put) (item : Item) → HasKind None item → item_bytes plan.order before item ≡ raw_of item
   item_raw before (Raw bytes) h = refl
-  item_raw before (Itm p) h = absurd h
-  item_raw before (Dwt d) h = absurd h
-  item_raw before (Stp item) h = absurd h
+  item_raw before item h = absurd h
 
   line_raw : is_one x ids ≡ false → (before : List Line2) (line : Line2) → OfKind None line → own before line ≡ bytes_by x line
   line_raw out before (One Nothing) h = refl
@@ -274,9 +244,7 @@ module _ (plan : Plan) (x : ℕ) (sound : is_sound plan ≡ true) where
       of_item : (item : Item) → HasKind (Some kinds.Stp) item →
           written plan.order (given_puts x before) ++ item_bytes plan.order (given_puts x before) item ≡ written plan.order (given_puts x before ++ unmarked (items_of item))
       of_item (Stp item) k = sym (written_more plan.order (given_puts x before) item)
-      of_item (Itm p) k = absurd k
-      of_item (Dwt d) k = absurd k
-      of_item (Raw bytes) k = absurd k
+      of_item item k = absurd k
 
       by : (v : Bool) → (id == x) ≡ v →
           written plan.order (given_puts x before) ++ (if v then item_bytes plan.order (given_puts id before) item else [])
@@ -370,58 +338,6 @@ module _ (plan : Plan) (x : ℕ) (sound : is_sound plan ≡ true) where
       by (Some kinds.Stp) k =
           stp_bytes lines g k ∙ none_encoded plan.order (given_puts x lines) (items_put x lines ∙ none_items lines e)
 
--- all are of sources
-tagged_sources : (id : ℕ) (bytes : List ℕ) → 1 ≤ id → id ≤ 126 → All IsOfSource (tagged id bytes)
-tagged_sources id [] low high = All-nil IsOfSource
-tagged_sources id (b ∷ bytes) low high =
-    All-cons IsOfSource (record { id = id; byte = b }) (tagged id bytes) (record { named = low; in_range = high }) (tagged_sources id bytes low high)
-
-ends_sources : (order : Order) (given : ℕ → List Put) (ids : List ℕ) → are_sound ids ≡ true → All IsOfSource (ends_with order given ids)
-ends_sources order given [] s = All-nil IsOfSource
-ends_sources order given (id ∷ ids) s =
-    let f = sound_first id ids s in
-    let low = f.low in
-    let high = f.high in
-    All-append IsOfSource (tagged id (end_bytes order (given id))) (ends_with order given ids)
-    (tagged_sources id (end_bytes order (given id)) low (omega arith)) (ends_sources order given ids f.rest)
-
-record AreNamed (s : Segments) : Type 0 where
-  ended : All (λ t. All IsOfSource t) s.ended
-  begun : All IsOfSource s.begun
-
-now_named : (s : Segments) (bytes : List Tagged) → AreNamed s → All IsOfSource bytes → All (λ t. All IsOfSource t) (now_ended (with_bytes s bytes))
-now_named s bytes n b =
-    All-push (λ (t : List Tagged). All IsOfSource t) s.ended (s.begun ++ bytes) n.ended (All-append IsOfSource s.begun bytes n.begun b)
-
-line_named : (s : Segments) (bytes : List Tagged) (line : Line2) → AreNamed s → All IsOfSource bytes → AreNamed (after_line line (with_bytes s bytes))
-line_named s bytes (One line) n b = record { ended = n.ended; begun = All-append IsOfSource s.begun bytes n.begun b }
-line_named s bytes (Trigger byte) n b = record { ended = n.ended; begun = All-append IsOfSource s.begun bytes n.begun b }
-line_named s bytes Flush n b = record { ended = now_named s bytes n b; begun = All-nil IsOfSource }
-
-module _ (plan : Plan) (sound : is_sound plan ≡ true) where
-  ids_sound : are_sound (in_order plan.stp) ≡ true
-  ids_sound = in_order_sound plan.stp (sound_back plan.itm plan.stp sound)
-
-  line_sources : (before : List Line2) (line : Line2) → IsSaid2 plan line → All IsOfSource (line_bytes plan.order (in_order plan.stp) before line)
-  line_sources before (One Nothing) s = All-nil IsOfSource
-  line_sources before (One (Of id item)) s = tagged_sources id (item_bytes plan.order (given_puts id before) item) s.0 s.1
-  line_sources before Flush s = ends_sources plan.order (λ y. given_puts y before) (in_order plan.stp) ids_sound
-  line_sources before (Trigger byte) s = tagged_sources 125 (byte ∷ []) (omega arith) (omega arith)
-
-  put_sources : (before : List Line2) (s : Segments) (lines : List Line2) → AreNamed s → CanAllBePut plan before lines →
-      AreNamed (segments_after plan.order (in_order plan.stp) before s lines)
-  put_sources before s [] n g = n
-  put_sources before s (line ∷ lines) n g =
-      put_sources (before ++ line ∷ []) (with_line plan.order (in_order plan.stp) before s line) lines
-      (line_named s (line_bytes plan.order (in_order plan.stp) before line) line n (line_sources before line g.0.said)) g.1
-
-  pub all_sources : (lines : List Line2) → CanAllBePut plan [] lines → All (λ t. All IsOfSource t) (script_segments plan lines)
-  all_sources lines g =
-      let ids = in_order plan.stp in
-      now_named (segments_of plan.order ids lines) (ends_with plan.order (λ y. given_puts y lines) ids)
-      (put_sources [] no_segments lines (record { ended = All-nil (λ (t : List Tagged). All IsOfSource t); begun = All-nil IsOfSource }) g)
-      (ends_sources plan.order (λ y. given_puts y lines) ids ids_sound)
-
 -- the packets that lines give are proper
 proper_append : (a b : List ItmPacket) → AreProper a → AreProper b → AreProper (a ++ b)
 proper_append [] b p q = q
@@ -430,18 +346,15 @@ proper_append (x ∷ a) b p q = (p.0, proper_append a b p.1 q)
 item_proper : (item : Item) → IsSayable item → AreProper (packets_of item)
 item_proper (Itm p) h = (h.0, tt)
 item_proper (Dwt d) h = (let k = name_of_packet d (in_range d h) in (k.0, k.1), tt)
-item_proper (Stp item) h = tt
-item_proper (Raw bytes) h = tt
+item_proper item h = tt
 
 line_proper : (plan : Plan) (x : ℕ) (line : Line2) → IsSaid2 plan line → AreProper (by_item (packets_by x) line)
-line_proper plan x (One Nothing) s = tt
-line_proper plan x Flush s = tt
-line_proper plan x (Trigger byte) s = tt
 line_proper plan x (One (Of id item)) s = by (id == x)
   where
     by : (v : Bool) → AreProper (if v then packets_of item else [])
     by true = item_proper item s.2
     by false = tt
+line_proper plan x line s = tt
 
 pub all_proper : (plan : Plan) (x : ℕ) (before lines : List Line2) → CanAllBePut plan before lines → AreProper (given_packets x lines)
 all_proper plan x before [] g = tt

@@ -1,6 +1,6 @@
 -- Hexadecimal digits of numbers, and the numbers that they say.
-use Rattle.std.proofs.Common.{◌≡◌, ℕ, zero, suc, ◌+◌, ◌*◌, ◌/◌, ◌%◌, ◌^◌, ◌<◌, ◌≤◌, List, [], ◌∷◌, length, refl, sym, ◌∙◌, ap, arith, Bool, true, false, map}
-use Rattle.std.specs.Prelude.{slice_index, ◌&&◌, ◌==◌, if◌then◌else◌}
+use Rattle.std.proofs.Common.{◌≡◌, ℕ, zero, suc, ◌+◌, ◌*◌, ◌/◌, ◌%◌, ◌^◌, ◌<◌, ◌≤◌, List, [], ◌∷◌, length, refl, sym}
+use Rattle.std.proofs.Common.{◌∙◌, ap, arith, true, map, slice_index, ◌==◌, if◌then◌else◌}
 use Rattle.std.specs.List.{list_all}
 use Rattle.std.specs.Char.{is_ascii_hexdigit, digit_value}
 use Rattle.std.specs.Str.Parse.{digits_value, digits_value_after}
@@ -9,28 +9,17 @@ use Rattle.std.proofs.lemmas.Bool.Decides.{nat_tests}
 use Rattle.std.proofs.lemmas.Nat.{mod-mul-add, div-mul-add, mul-le}
 use Rattle.std.proofs.Math.Nat.{pow-zero, pow-suc, mul_comm, mul_assoc, add-mul, mod-eq_of_lt, div-add-mod}
 use Rattle.hex.specs.Hex.{lower_digits}
-use Rattle.trace_clock.specs.LastWord.{nibble_at}
-use Rattle.trace_text.specs.HexDigits.{hex_digits}
-use Rattle.script_text.proofs.Hexadecimals.{all_digits, and_left, and_right, both}
+use Rattle.script_laws.specs.Names.{nibble_at, hex_digits}
+use Rattle.script_text.proofs.DigitTable.{below, below_holds}
+use Rattle.script_text.proofs.Hexadecimals.{all_digits, digit_small, and_left, and_right, both}
 use Rattle.script_laws.specs.Lowered.{lowered}
 
--- what holds of the digits 0 to 15, as a test, holds of each
-abbrev pub below : (ℕ → Bool) → ℕ → Bool
-below test zero = true
-below test (suc d) = test d && below test d
-
-pub below_holds : (test : ℕ → Bool) (n d : ℕ) → below test n ≡ true → d < n → test d ≡ true
-below_holds test zero d h lt = absurd (omega arith)
-below_holds test (suc n) d h lt = by (d == n) refl (λ less. below_holds test n d (and_right (test n) (below test n) h) less)
-  where
-    by : (v : Bool) → (d == n) ≡ v → (d < n → test d ≡ true) → test d ≡ true
-    by true e more = (let same : d ≡ n = grind (arith, nat_tests) in ap test same ∙ and_left (test n) (below test n) h)
-    by false e more = more (let differ : (d ≡ n → ⊥) = (λ q. grind (arith, nat_tests)) in grind (arith, nat_tests))
-
 pub digit_hexadecimal : (d : ℕ) → d < 16 → is_ascii_hexdigit (slice_index lower_digits d) ≡ true
+unfolding below
 digit_hexadecimal d h = below_holds (λ d. is_ascii_hexdigit (slice_index lower_digits d)) 16 d refl h
 
 pub digit_says : (d : ℕ) → d < 16 → digit_value (slice_index lower_digits d) ≡ d
+unfolding below
 digit_says d h =
     let e : (digit_value (slice_index lower_digits d) == d) ≡ true = below_holds (λ d. digit_value (slice_index lower_digits d) == d) 16 d refl h in
     grind (arith, nat_tests)
@@ -121,9 +110,6 @@ after_value m (c ∷ text) =
     let h : m * (16 * p) ≡ m * (p * 16) = ap (λ x. m * x) (mul_comm 16 p) in
     omega arith
 
-digit_small : (c : ℕ) → is_ascii_hexdigit c ≡ true → digit_value c < 16
-digit_small c h = grind (arith, nat_tests)
-
 digit_less : (c : ℕ) → is_ascii_hexdigit c ≡ true → c < 103
 digit_less c h = grind (arith, nat_tests)
 
@@ -132,6 +118,7 @@ same_number a b e = grind (arith, nat_tests)
 
 -- a hexadecimal digit in lower case is that of its value
 digit_lowered : (c : ℕ) → is_ascii_hexdigit c ≡ true → lowered c ≡ slice_index lower_digits (digit_value c)
+unfolding below
 digit_lowered c h =
     let t : (if is_ascii_hexdigit c then lowered c == slice_index lower_digits (digit_value c) else true) ≡ true =
     below_holds (λ c. if is_ascii_hexdigit c then lowered c == slice_index lower_digits (digit_value c) else true) 103 c refl (digit_less c h) in

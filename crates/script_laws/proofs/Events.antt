@@ -1,27 +1,16 @@
 -- The events of a plan's sources, by what each sends.
-use Rattle.std.proofs.Common.{◌≡◌, ◌≢◌, ℕ, List, [], ◌∷◌, ◌++◌, refl, sym, ◌∙◌, ap, subst, arith, Bool, true, false, Option, None, map, append-nil}
-use Rattle.std.specs.Prelude.{◌==◌, ◌||◌, flat_map, if◌then◌else◌}
+use Rattle.std.proofs.Common.{◌≡◌, ◌≢◌, ℕ, List, [], ◌∷◌, ◌++◌, refl, sym, ◌∙◌, ap, subst, arith, Bool, true, false}
+use Rattle.std.proofs.Common.{Option, None, map, append-nil, ◌==◌, ◌||◌, flat_map, if◌then◌else◌, All}
 use Rattle.std.proofs.lemmas.Bool.Decides.{nat_tests}
 use Rattle.std.proofs.lemmas.List.{map-append}
-use Rattle.std.specs.List.{All}
 use Rattle.std.proofs.lemmas.List.Concat.{flat_map-append}
 use Rattle.std.proofs.lemmas.List.Elements.{All-nil, All-cons, All-append}
-use Rattle.trace_values.specs.declared.cell.Cell.{Cell}
-use Rattle.trace_values.specs.Placed.{Place, Placed, units_of}
-use Rattle.trace_values.specs.Stream.{Said, Kept}
-use Rattle.frame_grammar.specs.Reading.{is_source}
-use Rattle.source_events.specs.declared.event.Event.{Event}
-use Rattle.source_events.specs.declared.event.What.{What}
+use Rattle.script_laws.specs.Names.{Cell, Place, Placed, units_of, Said, Kept, is_source, Event, What, Packet, Plan}
+use Rattle.script_laws.specs.Names.{SourceKind, told, stream_of, sources_by, Mapped, what_of, lifted, triggers}
+use Rattle.script_laws.specs.Names.{raw_events, raws, events, id_of, bytes_of, placed_run, list_of, last_at}
 use Rattle.source_events.specs.declared.event.What.TheVariants.{Packet as PacketEvent, Raw, Trigger}
-use Rattle.source_events.specs.declared.packet.Packet.{Packet}
-use Rattle.source_events.specs.declared.plan.Plan.{Plan}
-use Rattle.source_events.specs.declared.plan.SourceKind.{SourceKind}
 use Rattle.source_events.specs.declared.plan.SourceKind.TheVariants.{Itm, Stp}
-use Rattle.source_events.specs.Merge.{told}
 use Rattle.source_events.specs.Packets.{said_as, given_as}
-use Rattle.source_events.specs.Plan.{stream_of, sources_by}
-use Rattle.source_events.specs.Report.{Mapped, what_of, lifted, triggers, raw_events, raws, events}
-use Rattle.source_events.specs.Runs.{id_of, bytes_of, placed_run, list_of, last_at}
 use Rattle.source_events.proofs.Least.{AreSound}
 use Rattle.script_laws.specs.ReadBack.{bytes_in, SaysBytes}
 use Rattle.script_laws.proofs.MappedIds.{is_one}

@@ -1,39 +1,28 @@
 -- Laws of the kinds of fields, and of rows: what is written reads back, and what reads is what is written, with its
 -- digits in lower case.
 use Rattle.std.proofs.Common.{◌≡◌, ℕ, suc, ◌/◌, ◌%◌, ◌<◌, ◌≤◌, ◌^◌, List, [], ◌∷◌, length, map, refl, sym, ◌∙◌, ap}
-use Rattle.std.proofs.Common.{arith, Bool, true, false, Option, Some, None}
-use Rattle.std.specs.Prelude.{decimal, nat_lt, nat_le, ◌&&◌, ◌==◌, option_map}
+use Rattle.std.proofs.Common.{arith, Bool, true, false, Option, Some, None, decimal, nat_lt, nat_le, ◌&&◌, ◌==◌}
+use Rattle.std.proofs.Common.{option_map, bytes_eq}
 use Rattle.std.specs.List.{list_all}
 use Rattle.std.specs.Char.{is_ascii_hexdigit}
-use Rattle.std.specs.Str.{bytes_eq}
 use Rattle.std.proofs.lemmas.Bool.Decides.{nat_tests}
 use Rattle.std.proofs.lemmas.Slice.Eq.{bytes_eq-Decides}
 use Rattle.hex.specs.Hex.{encode_lower, encode_with, lower_digits, IsBytes}
 use Rattle.hex.proofs.HexLemmas.{decode_of-encode_lower, length-encode_with}
-use Rattle.trace_clock.specs.LastWord.{nibble_count, WordFits}
-use Rattle.stp_grammar.specs.Proper.{IsProperStamp}
-use Rattle.stp_grammar.specs.declared.item.Stamp.{Stamp}
-use Rattle.stp_grammar.specs.declared.item.Stamp.TheVariants.{None as NoStamp, Natural, Gray, Raw as RawStamp}
-use Rattle.trace_text.specs.HexDigits.{hex_digits}
-use Rattle.trace_text.specs.StpText.{known_text, stamp_text}
-use Rattle.decimal_words.specs.Numbers.{number_named}
+use Rattle.script_laws.specs.Names.{nibble_count, WordFits, IsProperStamp, Stamp, Natural, Gray, hex_digits, known_text}
+use Rattle.script_laws.specs.Names.{stamp_text, number_named, is_word, word_of, hexadecimal_named, size_with, raw_named}
+use Rattle.script_laws.specs.Names.{time_named, stamp_named, decoded, bytes_named, plain, fits, Kind, Upto, Known}
+use Rattle.script_laws.specs.Names.{Digits, Time, Bytes, Field, Word, Says, Value, value_of, Fits, Values, words_with}
+use Rattle.script_laws.specs.Names.{AllFit, values_at, Row, row, word_in, fields_in, made_in, said_in}
+use Rattle.stp_grammar.specs.declared.item.Stamp.TheVariants.{None as NoStamp, Raw as RawStamp}
 use Rattle.decimal_words.proofs.Numbers.{names_number}
 use Rattle.script_text.specs.Steps.{◌>>=◌}
-use Rattle.script_text.specs.Words.{is_word, word_of}
-use Rattle.script_text.specs.Numbers.{hexadecimal_named}
-use Rattle.script_text.specs.Stamps.{size_with, raw_named, time_named, stamp_named}
-use Rattle.script_text.specs.Bytes.{decoded, bytes_named}
-use Rattle.script_text.specs.Shapes.{plain, fits}
-use Rattle.script_text.specs.Table.{Kind, Upto, Known, Digits, Time, Bytes, Field, Word, Says, Value, text, value_of}
-use Rattle.script_text.specs.Table.{Fits, Values, words_with, AllFit, values_at, Row, row, word_in, fields_in, made_in}
-use Rattle.script_text.specs.Table.{said_in}
-use Rattle.script_text.proofs.Hexadecimals.{said_is}
+use Rattle.script_text.specs.Table.{text}
+use Rattle.script_text.proofs.Hexadecimals.{said_is, and_left, and_right, both}
 use Rattle.script_text.proofs.Fields.{values_fit}
 use Rattle.script_text.proofs.Options.{bind_some, some_of, map_some}
 use Rattle.script_laws.specs.Lowered.{lowered}
-use Rattle.script_text.proofs.Hexadecimals.{and_left, and_right, both}
-use Rattle.script_laws.proofs.Digits.{digits_length, digits_hexadecimal, digits_say}
-use Rattle.script_laws.proofs.Digits.{digit_hexadecimal}
+use Rattle.script_laws.proofs.Digits.{digits_length, digits_hexadecimal, digits_say, digit_hexadecimal}
 use Rattle.script_text.proofs.Joining.{are_all, decimal_word, word_graphic, graphic_word, digits_graphic}
 use Rattle.script_laws.proofs.Lowering.{number_lowered, hexadecimal_lowered, stamp_lowered, bytes_lowered}
 

@@ -1,24 +1,17 @@
 -- Each shape's row can be written and read, and is found by its words; and words that have a shape begin with its word.
-use Rattle.std.proofs.Common.{◌≡◌, ℕ, List, [], ◌∷◌, refl, sym, subst, Bool, true, false, Some}
-use Rattle.std.specs.Prelude.{codes, if◌then◌else◌}
-use Rattle.std.specs.Str.{bytes_eq}
+use Rattle.std.proofs.Common.{◌≡◌, ℕ, List, [], ◌∷◌, refl, sym, subst, Bool, true, false, Some, codes, if◌then◌else◌}
+use Rattle.std.proofs.Common.{bytes_eq}
 use Rattle.std.proofs.lemmas.Slice.Eq.{bytes_eq-Decides}
+use Rattle.script_laws.specs.Names.{Enter, Eight, Sixteen, ThirtyTwo, SixtyFour, Shape, ItmShape, DwtShape, StpShape}
+use Rattle.script_laws.specs.Names.{fields_of, fits, first_fitting, shapes_named, shape_named, Row, Values, word_in}
+use Rattle.script_laws.specs.Names.{fields_in, itm_row, dwt_row, stp_row, raw_row}
 use Rattle.itm_grammar.specs.declared.packet.Size.TheVariants.{One}
 use Rattle.itm_grammar.specs.declared.packet.Lateness.TheVariants.{Exact}
-use Rattle.dwt_packets.specs.declared.item.Change.TheVariants.{Enter}
-use Rattle.stp_grammar.specs.declared.packet.Width.TheVariants.{Four, Eight, Sixteen, ThirtyTwo, SixtyFour}
-use Rattle.script_text.specs.declared.shapes.Shape.{Shape}
+use Rattle.stp_grammar.specs.declared.packet.Width.TheVariants.{Four}
 use Rattle.script_text.specs.declared.shapes.Shape.TheVariants.{Itm, Dwt, Stp, Raw}
-use Rattle.script_text.specs.declared.itm_shapes.ItmShape.{ItmShape}
-use Rattle.script_text.specs.declared.itm_shapes.ItmShape.TheVariants.{Software, Local}
-use Rattle.script_text.specs.declared.itm_shapes.ItmShape.TheVariants.{GlobalSecond, Extension}
-use Rattle.script_text.specs.declared.dwt_shapes.DwtShape.{DwtShape}
-use Rattle.script_text.specs.declared.dwt_shapes.DwtShape.TheVariants.{Exception}
-use Rattle.script_text.specs.declared.dwt_shapes.DwtShape.TheVariants.{Read, Written, Other}
-use Rattle.script_text.specs.declared.stp_shapes.StpShape.{StpShape}
+use Rattle.script_text.specs.declared.itm_shapes.ItmShape.TheVariants.{Software, Local, GlobalSecond, Extension}
+use Rattle.script_text.specs.declared.dwt_shapes.DwtShape.TheVariants.{Exception, Read, Written, Other}
 use Rattle.script_text.specs.declared.stp_shapes.StpShape.TheVariants.{Datum}
-use Rattle.script_text.specs.Shapes.{fields_of, fits, first_fitting, shapes_named, shape_named}
-use Rattle.script_text.specs.Table.{Row, Values, word_in, fields_in, itm_row, dwt_row, stp_row, raw_row}
 use Rattle.script_laws.proofs.Fields.{row_sound, row_words}
 
 -- a row can be written and read, and its words have its shape

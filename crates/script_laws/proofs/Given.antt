@@ -1,51 +1,38 @@
 -- Frames in which each source has the bytes that the lines of a script put read back as what the lines give.
-use Rattle.std.proofs.Common.{◌≡◌, ◌≢◌, ℕ, zero, suc, ◌≤◌, List, [], ◌∷◌, length, refl, sym, ◌∙◌, ap, subst, arith, true, false, Option, None, Some, map}
-use Rattle.std.specs.Prelude.{flat_map}
-use Rattle.std.specs.List.{All}
-use Rattle.trace_values.specs.declared.cell.Cell.{Cell}
+use Rattle.std.proofs.Common.{◌≡◌, ◌≢◌, ℕ, zero, suc, ◌≤◌, List, [], ◌∷◌, length, refl, sym, ◌∙◌, ap, subst, arith}
+use Rattle.std.proofs.Common.{true, false, Option, None, Some, map, flat_map, All}
+use Rattle.script_laws.specs.Names.{Cell, Place, Placed, units_of, placed, Aligned, Tagged, joined, written_segments}
+use Rattle.script_laws.specs.Names.{ItmPacket, packets_in, StpItem, AreFitting, Event, What, Packet, Plan, SourceKind}
+use Rattle.script_laws.specs.Names.{IsMerged, told, part, cut, kind_of, sources_by, is_sound, Mapped, events, raws}
+use Rattle.script_laws.specs.Names.{lesser, of_source, least_fault, port_events, runs_in, stop_in, capture_events}
+use Rattle.script_laws.specs.Names.{list_of, tail_of, Line2, given_packets, given_items, given_puts, given_bytes}
+use Rattle.script_laws.specs.Names.{script_segments}
 use Rattle.trace_values.specs.declared.fault.Reason.{Reason}
-use Rattle.trace_values.specs.Placed.{Place, Placed, units_of, placed}
 use Rattle.trace_values.specs.Nibbles.{nibbles_of}
-use Rattle.trace_values.specs.declared.reading_modes.FramesMode.TheVariants.{Aligned}
-use Rattle.frame_writer.specs.Written.{Tagged, joined, written_segments}
 use Rattle.frame_writer.specs.ReadBack as framed
 use Rattle.frame_writer.proofs.ReadingBack.{written_reads}
-use Rattle.itm_grammar.specs.declared.packet.ItmPacket.{ItmPacket}
-use Rattle.itm_codec.specs.Reading.{packets_in}
-use Rattle.stp_grammar.specs.declared.item.StpItem.{StpItem}
 use Rattle.stp_codec.specs.Reading.{items_in}
 use Rattle.stp_encoder.specs.ReadBack as encoded
-use Rattle.stp_encoder.specs.Fitting.{AreFitting}
 use Rattle.stp_encoder.proofs.ReadingBack.{bytes_back}
-use Rattle.source_events.specs.declared.event.Event.{Event}
-use Rattle.source_events.specs.declared.event.What.{What}
 use Rattle.source_events.specs.declared.event.What.TheVariants.{Packet as PacketEvent}
-use Rattle.source_events.specs.declared.packet.Packet.{Packet}
 use Rattle.source_events.specs.declared.packet.Packet.TheVariants.{Itm as ItmPacket_, Stp as StpPacket_}
-use Rattle.source_events.specs.declared.plan.Plan.{Plan}
-use Rattle.source_events.specs.declared.plan.SourceKind.{SourceKind}
 use Rattle.source_events.specs.declared.plan.SourceKind.TheVariants.{Itm, Stp}
-use Rattle.source_events.specs.Merge.{IsMerged, told, part, cut}
-use Rattle.source_events.specs.Plan.{kind_of, sources_by, is_sound}
-use Rattle.source_events.specs.Report.{Mapped, events, raws, lesser, of_source, least_fault, port_events, runs_in, stop_in, capture_events}
-use Rattle.source_events.specs.Runs.{list_of}
-use Rattle.source_events.specs.Tails.{tail_of}
 use Rattle.source_events.proofs.Least.{Full, least_none}
 use Rattle.source_events.proofs.Captures.{capture_rises}
 use Rattle.source_events.proofs.Lawful.{plan_lawful}
 use Rattle.source_events.proofs.Merging.{capture_merged}
-use Rattle.script_text.specs.declared.version_two.Line2.{Line2}
-use Rattle.script_rebuild.specs.Script.{given_packets, given_items, given_puts, given_bytes}
-use Rattle.script_rebuild.specs.Segments.{script_segments}
 use Rattle.script_rebuild.proofs.AllSegments.{items_put}
-use Rattle.script_laws.specs.ReadBack.{aligned, port_of, report_of, said_of, bytes_in, SaysBytes, has_line, ReadsAsGiven}
+use Rattle.script_laws.specs.ReadBack.{aligned, port_of, report_of, said_of, bytes_in, SaysBytes, has_line}
+use Rattle.script_laws.specs.ReadBack.{ReadsAsGiven}
 use Rattle.script_laws.specs.Puts.{CanAllBePut}
 use Rattle.script_laws.proofs.Said.{all_fit}
-use Rattle.script_laws.proofs.MappedIds.{itm_one, stp_one, none_one, one_itm, one_stp, mapped_low}
-use Rattle.script_laws.proofs.Bytes.{bytes_for, itm_bytes, stp_bytes, raw_bytes, none_items, none_packets, none_bytes, all_proper}
+use Rattle.script_laws.proofs.MappedIds.{lists_by, one_itm, one_stp, mapped_range}
+use Rattle.script_laws.proofs.Bytes.{bytes_for, itm_bytes, stp_bytes, raw_bytes, none_items, none_packets, none_bytes}
+use Rattle.script_laws.proofs.Bytes.{all_proper}
 use Rattle.script_laws.proofs.Sources.{list_bytes, no_cell}
 use Rattle.script_laws.proofs.Packets.{IsReadAs, read_as}
-use Rattle.script_laws.proofs.Events.{whats, told_whats, itm_events, stp_events, other_events, no_faults, lifted_whats, raws_bytes, raws_plain, raws_none, raws_null}
+use Rattle.script_laws.proofs.Events.{whats, told_whats, itm_events, stp_events, other_events, no_faults, lifted_whats}
+use Rattle.script_laws.proofs.Events.{raws_bytes, raws_plain, raws_none, raws_null}
 
 not_null : (x : ℕ) → 1 ≤ x → x ≢ 0
 not_null zero l = absurd (omega arith)
@@ -84,14 +71,14 @@ module _ (every halves : ℕ) (plan : Plan) (lines : List Line2) (sound : is_sou
   itm_reads : (x : ℕ) → kind_of plan x ≡ Some Itm → IsReadAs (list_of x runs) (given_packets x lines)
   itm_reads x k =
       read_as (given_packets x lines) (all_proper plan x [] lines good) (list_of x runs)
-      (list_bytes capture bytes law x (not_null x (mapped_low plan x Itm sound k)) ∙ kept x ∙ itm_bytes plan x sound lines good k)
+      (list_bytes capture bytes law x (not_null x (mapped_range plan x Itm sound k).0) ∙ kept x ∙ itm_bytes plan x sound lines good k)
 
   stp_reads : (x : ℕ) → kind_of plan x ≡ Some Stp → encoded.ReadsBack plan.order (given_items x lines) (nibbles_of (list_of x runs))
   stp_reads x k =
       let same = items_put x lines in
       subst (λ (items : List StpItem). encoded.ReadsBack plan.order items (nibbles_of (list_of x runs))) same
       (bytes_back plan.order (given_puts x lines) (subst AreFitting (sym same) (all_fit plan x lines good)) (list_of x runs)
-      (list_bytes capture bytes law x (not_null x (mapped_low plan x Stp sound k)) ∙ kept x ∙ stp_bytes plan x sound lines good k))
+      (list_bytes capture bytes law x (not_null x (mapped_range plan x Stp sound k).0) ∙ kept x ∙ stp_bytes plan x sound lines good k))
 
   no_fault : stop_in sources (port_of u) ≡ None
   no_fault =
@@ -117,12 +104,12 @@ module _ (every halves : ℕ) (plan : Plan) (lines : List Line2) (sound : is_sou
 
   itm_said : (x : ℕ) → kind_of plan x ≡ Some Itm → said_of plan u x ≡ map (λ (p : ItmPacket). PacketEvent (ItmPacket_ p)) (given_packets x lines)
   itm_said x k =
-      said_is x ∙ ap whats (itm_events (aligned plan) runs x (itm_one plan x k))
+      said_is x ∙ ap whats (itm_events (aligned plan) runs x (lists_by plan x (Some Itm) k))
       ∙ lifted_whats ItmPacket_ (packets_in false (list_of x runs)).given (given_packets x lines) (itm_reads x k).given
 
   stp_said : (x : ℕ) → kind_of plan x ≡ Some Stp → said_of plan u x ≡ map (λ (i : StpItem). PacketEvent (StpPacket_ i)) (given_items x lines)
   stp_said x k =
-      let one = stp_one plan x k in
+      let one = lists_by plan x (Some Stp) k in
       said_is x ∙ ap whats (stp_events (aligned plan) runs x one.0 one.1)
       ∙ lifted_whats StpPacket_ (items_in plan.order false (list_of x runs)).given (given_items x lines) (stp_reads x k).given
 
@@ -133,7 +120,7 @@ module _ (every halves : ℕ) (plan : Plan) (lines : List Line2) (sound : is_sou
   -- other sources
   other_said : (x : ℕ) → kind_of plan x ≡ None → said_of plan u x ≡ whats (raws x runs)
   other_said x k =
-      let one = none_one plan x k in
+      let one = lists_by plan x None k in
       said_is x ∙ ap whats (other_events (aligned plan) runs x one.0 one.1)
 
   other_plain : (x : ℕ) → kind_of plan x ≡ None → All SaysBytes (said_of plan u x)

@@ -1,57 +1,40 @@
 -- The items of the table: the shape and the values of each, and that its row makes it of them, and no other.
 use Rattle.std.proofs.Common.{◌≡◌, ℕ, zero, suc, ◌-◌, ◌*◌, ◌/◌, ◌%◌, ◌<◌, ◌≤◌, ◌^◌, List, [], ◌∷◌, ◌++◌, refl, sym, ◌∙◌}
-use Rattle.std.proofs.Common.{ap, arith, append_assoc, Bool, true, false, Option, Some}
-use Rattle.std.specs.Prelude.{decimal, codes}
+use Rattle.std.proofs.Common.{ap, arith, append_assoc, Bool, true, false, Option, Some, decimal, codes, ◌==◌, nat_le}
+use Rattle.std.proofs.Common.{IsSome}
 use Rattle.std.specs.Int.{to_be_bytes, w16, w32}
 use Rattle.hex.specs.Hex.{encode_lower}
 use Rattle.itm_grammar.specs.declared.packet.Size.{Size}
-use Rattle.itm_grammar.specs.declared.packet.Size.TheVariants.{One, Two, Four}
-use Rattle.itm_grammar.specs.declared.packet.ItmPacket.{ItmPacket}
+use Rattle.itm_grammar.specs.declared.packet.Size.TheVariants.{One}
 use Rattle.itm_grammar.specs.declared.packet.ItmPacket.TheVariants as itm
-use Rattle.dwt_packets.specs.Packet.{IsInRange}
-use Rattle.dwt_packets.specs.declared.item.Change.TheVariants.{Enter}
-use Rattle.dwt_packets.specs.declared.item.DwtItem.{DwtItem}
 use Rattle.dwt_packets.specs.declared.item.DwtItem.TheVariants as dwt
-use Rattle.dwt_packets.proofs.Inverses.{in_range}
-use Rattle.stp_grammar.specs.Proper.{bits_of}
+use Rattle.dwt_packets.proofs.Inverses.{in_range, inverse}
 use Rattle.stp_grammar.specs.declared.packet.Width.{Width}
 use Rattle.stp_grammar.specs.declared.item.Place.{Place}
-use Rattle.stp_grammar.specs.declared.item.StpItem.{StpItem}
 use Rattle.stp_grammar.specs.declared.item.StpItem.TheVariants as stp
-use Rattle.stp_grammar.specs.Proper.{IsProperItem}
 use Rattle.trace_text.specs.Values.{value_text}
-use Rattle.trace_text.specs.HexDigits.{hex_digits}
 use Rattle.trace_text.specs.ItemText.{item_text, flag_text, owner_text}
-use Rattle.trace_text.specs.HardwareText.{hardware_text}
-use Rattle.trace_text.specs.StpText.{known_text, place_text, width_text, datum_text, mark_text, stamp_text, stp_text}
 use Rattle.trace_text.proofs.HexNibbles.{encoded}
-use Rattle.script_text.specs.declared.shapes.Shape.{Shape}
 use Rattle.script_text.specs.declared.shapes.Shape.TheVariants as shapes
-use Rattle.script_text.specs.declared.itm_shapes.ItmShape.{ItmShape}
 use Rattle.script_text.specs.declared.itm_shapes.ItmShape.TheVariants as itm_shapes
-use Rattle.script_text.specs.declared.dwt_shapes.DwtShape.{DwtShape}
 use Rattle.script_text.specs.declared.dwt_shapes.DwtShape.TheVariants as dwt_shapes
-use Rattle.script_text.specs.declared.stp_shapes.StpShape.{StpShape}
 use Rattle.script_text.specs.declared.stp_shapes.StpShape.TheVariants as stp_shapes
-use Rattle.script_text.specs.declared.items.Item.{Item}
-use Rattle.script_text.specs.declared.items.Item.TheVariants.{Itm, Dwt, Stp, Raw}
 use Rattle.script_text.proofs.Joining.{joined}
-use Rattle.std.specs.Prelude.{◌==◌, nat_le, IsSome}
 use Rattle.std.specs.Option.{ForSome}
 use Rattle.std.proofs.lemmas.Bool.Decides.{nat_tests}
 use Rattle.std.proofs.lemmas.Fmt.{decimal_digit}
+use Rattle.script_laws.specs.Names.{Two, Four, ItmPacket, IsInRange, Enter, DwtItem, bits_of, StpItem, IsProperItem}
+use Rattle.script_laws.specs.Names.{hex_digits, hardware_text, known_text, place_text, width_text, datum_text}
+use Rattle.script_laws.specs.Names.{mark_text, stamp_text, stp_text, Shape, ItmShape, DwtShape, StpShape, Item, Itm}
+use Rattle.script_laws.specs.Names.{Dwt, Stp, Raw, IsProper, first_bits, second_bits, packet, Stamp, Natural, Gray}
+use Rattle.script_laws.specs.Names.{text_of, IsSaidItm, IsSaidStp, IsSayable, Known, Fits, Values, AllFit, fields_in}
+use Rattle.script_laws.specs.Names.{made_in, size_word, itm_row, dwt_row, stp_row, raw_row, is_first, unnamed}
+use Rattle.script_laws.specs.Names.{null_stamp}
 use Rattle.itm_grammar.specs.Spelling.{byte_count}
-use Rattle.itm_grammar.specs.Proper.{IsProper, first_bits, second_bits}
-use Rattle.dwt_packets.specs.Packet.{packet}
 use Rattle.dwt_packets.specs.Table.{name}
 use Rattle.dwt_packets.proofs.FirstRow.{no_row}
-use Rattle.dwt_packets.proofs.Inverses.{inverse}
 use Rattle.stp_grammar.specs.declared.packet.Width.TheVariants as widths
-use Rattle.stp_grammar.specs.declared.item.Stamp.{Stamp}
-use Rattle.stp_grammar.specs.declared.item.Stamp.TheVariants.{None as NoStamp, Natural, Gray, Raw as RawStamp}
-use Rattle.script_text.specs.Said.{text_of, IsSaidItm, IsSaidStp, IsSayable}
-use Rattle.script_text.specs.Table.{Known, Fits, Values, AllFit, fields_in, made_in, size_word, itm_row, dwt_row}
-use Rattle.script_text.specs.Table.{stp_row, raw_row, is_first, unnamed, null_stamp}
+use Rattle.stp_grammar.specs.declared.item.Stamp.TheVariants.{None as NoStamp, Raw as RawStamp}
 use Rattle.script_text.proofs.Options.{some_of, chosen_some}
 use Rattle.script_text.proofs.Ranges.{unnamed_is}
 use Rattle.script_laws.proofs.Fields.{row_words}

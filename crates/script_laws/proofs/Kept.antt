@@ -1,18 +1,14 @@
 -- A funnel passes the bytes of each source on, whole and in order.
-use Rattle.std.proofs.Common.{◌≡◌, ◌≤◌, ℕ, List, [], ◌∷◌, ◌++◌, refl, sym, ◌∙◌, ap, append_assoc, append-nil}
-use Rattle.std.proofs.Common.{true, cond}
-use Rattle.std.specs.Prelude.{◌==◌}
+use Rattle.std.proofs.Common.{◌≡◌, ◌≤◌, ℕ, List, [], ◌∷◌, ◌++◌, refl, sym, ◌∙◌, ap, append_assoc, append-nil, true}
+use Rattle.std.proofs.Common.{cond, ◌==◌}
 use Rattle.std.proofs.lemmas.List.{map-append}
-use Rattle.frame_writer.specs.Written.{Tagged, joined}
+use Rattle.script_laws.specs.Names.{Tagged, joined, Act, Offer, Turn, Drain, offers, offered, are_of}
+use Rattle.script_laws.specs.Names.{bytes_for as given_for, are_apart, to_funnel, from_funnel, whole_acts, act_by}
+use Rattle.script_laws.specs.Names.{passed_from, all_passed, Turns}
 use Rattle.script_laws.proofs.Bytes.{bytes_for}
 use Rattle.trace_funnel.proofs.Acting.{acts_append, all_given}
-use Rattle.trace_funnel.specs.Acts.{Act, Offer, Turn, Drain, offers, offered, are_of}
-use Rattle.trace_funnel.specs.Kept.{bytes_for as given_for}
-use Rattle.trace_funnel.specs.Order.{are_apart}
 use Rattle.trace_funnel.specs.Turns.{Place, Turned, empty}
 use Rattle.trace_funnel.specs.declared.tagged.Tagged.{Tagged as Given}
-use Rattle.port_formatter.specs.Passed.{to_funnel, from_funnel, whole_acts, act_by, passed_from, all_passed}
-use Rattle.trace_funnel.specs.declared.turns.Turns.{Turns}
 
 -- the bytes of a source are the same in both forms
 pub to_same : (x : ℕ) (bytes : List Tagged) → given_for x (to_funnel bytes) ≡ bytes_for x bytes

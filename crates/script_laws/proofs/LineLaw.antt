@@ -1,17 +1,11 @@
 -- A line that says an item is the text of that item, with its digits in lower case.
-use Rattle.std.proofs.Common.{◌≡◌, ℕ, List, [], ◌∷◌, ◌++◌, length, map, refl, sym, ◌∙◌, ap, subst, arith, Bool, true, false, Some, Ok, Err}
-use Rattle.std.specs.Prelude.{decimal, nat_lt, if◌then◌else◌}
+use Rattle.std.proofs.Common.{◌≡◌, ℕ, List, [], ◌∷◌, ◌++◌, length, map, refl, sym, ◌∙◌, ap, subst, arith, Bool, true}
+use Rattle.std.proofs.Common.{false, Some, Ok, Err, decimal, nat_lt, if◌then◌else◌}
+use Rattle.std.proofs.lemmas.List.{map-append}
 use Rattle.std.proofs.lemmas.List.Splits.{join_with_byte-slice_split}
-use Rattle.source_events.specs.declared.plan.Plan.{Plan}
-use Rattle.script_text.specs.declared.shapes.Shape.{Shape}
-use Rattle.script_text.specs.declared.items.Item.{Item}
-use Rattle.script_text.specs.declared.lines.Line.TheVariants.{Nothing, Of}
-use Rattle.script_text.specs.declared.line_fault.LineFault.TheVariants.{LongLine, BadLine}
-use Rattle.script_text.specs.Words.{are_printable, words_in, are_words}
-use Rattle.script_text.specs.Shapes.{shape_named}
-use Rattle.script_text.specs.Items.{item_of}
-use Rattle.script_text.specs.Lines.{line_of_words, line_of, is_nothing}
-use Rattle.script_text.specs.Said.{text_of, IsSayable}
+use Rattle.script_laws.specs.Names.{Plan, Shape, Item, Nothing, Of, LongLine, BadLine, are_printable, words_in}
+use Rattle.script_laws.specs.Names.{are_words, shape_named, item_of, line_of_words, line_of, is_nothing, text_of}
+use Rattle.script_laws.specs.Names.{IsSayable}
 use Rattle.script_text.proofs.LineRanges.{words_are, item_said}
 use Rattle.script_laws.specs.Lowered.{lowered}
 use Rattle.script_text.proofs.Joining.{joined}
@@ -22,15 +16,11 @@ use Rattle.script_laws.proofs.Fields.{low}
 use Rattle.script_laws.proofs.AllItems.{item_says}
 use Rattle.script_laws.proofs.TextLaw.{whole_text}
 
-low_append : (a b : List ℕ) → map lowered (a ++ b) ≡ map lowered a ++ map lowered b
-low_append [] b = refl
-low_append (x ∷ a) b = ap (λ (l : List ℕ). lowered x ∷ l) (low_append a b)
-
 pub joined_low : (words : List (List ℕ)) → map lowered (joined words) ≡ joined (low words)
 joined_low [] = refl
 joined_low (word ∷ []) = refl
 joined_low (word ∷ (next ∷ words)) =
-    low_append word (32 ∷ joined (next ∷ words)) ∙ ap (λ (l : List ℕ). map lowered word ++ (32 ∷ l)) (joined_low (next ∷ words))
+    map-append lowered word (32 ∷ joined (next ∷ words)) ∙ ap (λ (l : List ℕ). map lowered word ++ (32 ∷ l)) (joined_low (next ∷ words))
 
 -- the words of a line that says an item
 record SaysWords (words : List (List ℕ)) (id : ℕ) (item : Item) : Type 0 where

@@ -1,34 +1,31 @@
 -- Words that say numbers, with their digits in lower case, are those that are written of these numbers.
-use Rattle.std.proofs.Common.{◌≡◌, ℕ, ◌+◌, ◌*◌, ◌/◌, ◌%◌, ◌<◌, ◌^◌, List, [], ◌∷◌, ◌++◌, length, map, refl, sym, ◌∙◌, ap, subst, arith, Bool, true, false, Some, None, Option, Ok, Err, Result}
-use Rattle.std.specs.Prelude.{codes, decimal, nat_le, nat_lt, ◌&&◌, ◌||◌, ◌==◌, slice_index, option_map, if◌then◌else◌}
+use Rattle.std.proofs.Common.{◌≡◌, ℕ, ◌+◌, ◌*◌, ◌/◌, ◌%◌, ◌<◌, ◌^◌, List, [], ◌∷◌, ◌++◌, length, map, refl, sym, ◌∙◌}
+use Rattle.std.proofs.Common.{ap, subst, arith, Bool, true, false, Some, None, Option, Ok, Err, Result, codes, decimal}
+use Rattle.std.proofs.Common.{nat_le, nat_lt, ◌&&◌, ◌||◌, ◌==◌, slice_index, option_map, if◌then◌else◌, bytes_eq}
 use Rattle.std.specs.Int.{IsInRange}
 use Rattle.std.specs.Option.{option_map_or}
-use Rattle.std.specs.Str.{bytes_eq}
 use Rattle.std.specs.Str.Parse.{AllDigits}
 use Rattle.std.proofs.lemmas.Bool.Decides.{nat_tests}
 use Rattle.std.proofs.lemmas.Fmt.{decimal_is_IsNumeral}
 use Rattle.std.proofs.lemmas.Str.Parse.{digit_from_value}
 use Rattle.std.proofs.lemmas.Slice.Eq.{bytes_eq-Decides}
-use Rattle.hex.specs.Hex.{decode_of, decode_pairs, pair_value, value_at, digit_or_error, hex_digit_value, encode_with, encode_lower, lower_digits, ◌>>=◌ as ◌>>ₕ◌}
+use Rattle.hex.specs.Hex.{decode_of, decode_pairs, pair_value, value_at, digit_or_error, hex_digit_value, encode_with}
+use Rattle.hex.specs.Hex.{encode_lower, lower_digits, ◌>>=◌ as ◌>>ₕ◌}
 use Rattle.hex.specs.declared.error.FromHexError.{FromHexError}
 use Rattle.hex.proofs.HexLemmas.{decode_of-ok, decode_of-even}
-use Rattle.stp_grammar.specs.declared.item.Stamp.{Stamp}
-use Rattle.stp_grammar.specs.declared.item.Stamp.TheVariants.{None as NoStamp, Natural, Gray, Raw}
-use Rattle.trace_text.specs.HexDigits.{hex_digits}
-use Rattle.trace_text.specs.StpText.{stamp_text}
-use Rattle.decimal_words.specs.Numbers.{number_named, text_after}
+use Rattle.script_laws.specs.Names.{Stamp, Natural, Gray, hex_digits, stamp_text, number_named, text_after}
+use Rattle.script_laws.specs.Names.{hexadecimal_named, size_with, raw_named, time_named, stamp_named, decoded}
+use Rattle.script_laws.specs.Names.{bytes_named}
+use Rattle.stp_grammar.specs.declared.item.Stamp.TheVariants.{None as NoStamp, Raw}
 use Rattle.decimal_words.proofs.Fronts.{begins}
 use Rattle.decimal_words.proofs.Numbers.{number_is}
 use Rattle.script_text.specs.Steps.{◌>>=◌}
-use Rattle.script_text.specs.Numbers.{hexadecimal_named}
-use Rattle.script_text.specs.Stamps.{size_with, raw_named, time_named, stamp_named}
-use Rattle.script_text.specs.Bytes.{decoded, bytes_named}
-use Rattle.script_text.proofs.Hexadecimals.{hexadecimal_is}
+use Rattle.script_text.proofs.Hexadecimals.{hexadecimal_is, and_left, and_right}
 use Rattle.script_text.proofs.Options.{bind_some, some_of, map_some}
 use Rattle.script_text.proofs.Fields.{size_is, decoded_ok}
 use Rattle.script_laws.specs.Lowered.{lowered}
-use Rattle.script_text.proofs.Hexadecimals.{and_left, and_right}
-use Rattle.script_laws.proofs.Digits.{below_holds, same_number, lowered_digits}
+use Rattle.script_text.proofs.DigitTable.{below, below_holds}
+use Rattle.script_laws.proofs.Digits.{same_number, lowered_digits}
 
 -- decimals have no letters
 digit_kept : (c : ℕ) → IsInRange 48 57 c → lowered c ≡ c
@@ -102,6 +99,7 @@ digit_less : (c v : ℕ) → hex_digit_value c ≡ Some v → c < 103
 digit_less c v e = grind (arith, nat_tests)
 
 digit_is : (c v : ℕ) → hex_digit_value c ≡ Some v → (v < 16) × (lowered c ≡ slice_index lower_digits v)
+unfolding below
 digit_is c v e =
     let t : is_lowered c (hex_digit_value c) ≡ true = below_holds (λ c. is_lowered c (hex_digit_value c)) 103 c refl (digit_less c v e) in
     let s : (nat_lt v 16 && (lowered c == slice_index lower_digits v)) ≡ true = subst (λ (o : Option ℕ). is_lowered c o ≡ true) e t in

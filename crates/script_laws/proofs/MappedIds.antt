@@ -1,14 +1,11 @@
 -- What a sound plan maps.
-use Rattle.std.proofs.Common.{◌≡◌, ℕ, ◌≤◌, List, [], ◌∷◌, ◌++◌, refl, sym, ◌∙◌, ap, subst, arith, Bool, true, false, Option, None, Some}
-use Rattle.std.specs.Prelude.{◌==◌, ◌&&◌, ◌||◌, not, nat_le, if◌then◌else◌}
+use Rattle.std.proofs.Common.{◌≡◌, ℕ, ◌≤◌, List, [], ◌∷◌, ◌++◌, refl, sym, ◌∙◌, ap, subst, arith, Bool, true, false}
+use Rattle.std.proofs.Common.{Option, None, Some, ◌==◌, ◌&&◌, ◌||◌, not, nat_le, if◌then◌else◌}
 use Rattle.std.specs.List.{list_any}
 use Rattle.std.proofs.lemmas.Bool.Decides.{nat_tests}
-use Rattle.source_events.specs.declared.plan.Plan.{Plan}
-use Rattle.source_events.specs.declared.plan.SourceKind.{SourceKind}
+use Rattle.script_laws.specs.Names.{Plan, SourceKind, kind_of, are_sound, is_sound, in_order}
 use Rattle.source_events.specs.declared.plan.SourceKind.TheVariants.{Itm, Stp}
-use Rattle.source_events.specs.Plan.{kind_of, are_sound, is_sound}
-use Rattle.script_rebuild.specs.Script.{in_order}
-use Rattle.script_rebuild.proofs.InOrder.{in_order_among, in_order_sound}
+use Rattle.script_rebuild.proofs.InOrder.{in_order_among, in_order_sound, sound_within}
 
 -- it is one of these
 abbrev pub is_one : ℕ → List ℕ → Bool
@@ -80,47 +77,29 @@ apart x (y ∷ front) back e k = by (y == x) refl (apart x front back (sound_fir
         clash false q a b = (let z : true ≡ false = sym b ∙ a in cc)
 
 -- the range of a mapped number
-pub in_range : (x : ℕ) (ids : List ℕ) → are_sound ids ≡ true → is_one x ids ≡ true → (1 ≤ x) × (x ≤ 111)
-in_range x [] e k = (let z : false ≡ true = k in cc)
-in_range x (y ∷ ids) e k = by (y == x) refl k (λ i. in_range x ids (sound_first y ids e).rest i)
-  where
-    by : (v : Bool) → (y == x) ≡ v → (v || is_one x ids) ≡ true → (is_one x ids ≡ true → (1 ≤ x) × (x ≤ 111)) → (1 ≤ x) × (x ≤ 111)
-    by true i h more =
-        let same : y ≡ x = grind (arith, nat_tests) in
-        let f = sound_first y ids e in
-        subst (λ (z : ℕ). (1 ≤ z) × (z ≤ 111)) same (f.low, f.high)
-    by false i h more = more h
-
 pub one_range : (plan : Plan) (x : ℕ) → is_sound plan ≡ true → (is_one x plan.itm || is_one x plan.stp) ≡ true → (1 ≤ x) × (x ≤ 111)
-one_range plan x s k = in_range x (plan.itm ++ plan.stp) s (one_in x plan.itm plan.stp ∙ k)
+one_range plan x s k = sound_within (plan.itm ++ plan.stp) s x (one_in x plan.itm plan.stp ∙ k)
 
 -- what a kind says of the lists
 abbrev kind_by : Bool → Bool → Option SourceKind
 kind_by a b = if a then Some Itm else if b then Some Stp else None
 
-pub itm_one : (plan : Plan) (x : ℕ) → kind_of plan x ≡ Some Itm → is_one x plan.itm ≡ true
-itm_one plan x e = by (is_one x plan.itm) (is_one x plan.stp) e
-  where
-    by : (a b : Bool) → kind_by a b ≡ Some Itm → a ≡ true
-    by true b e = refl
-    by false true e = cc
-    by false false e = cc
+abbrev KindSays : Option SourceKind → Bool → Bool → Type 0
+KindSays (Some Itm) a b = a ≡ true
+KindSays (Some Stp) a b = (a ≡ false) × (b ≡ true)
+KindSays None a b = (a ≡ false) × (b ≡ false)
 
-pub stp_one : (plan : Plan) (x : ℕ) → kind_of plan x ≡ Some Stp → (is_one x plan.itm ≡ false) × (is_one x plan.stp ≡ true)
-stp_one plan x e = by (is_one x plan.itm) (is_one x plan.stp) e
-  where
-    by : (a b : Bool) → kind_by a b ≡ Some Stp → (a ≡ false) × (b ≡ true)
-    by true b e = cc
-    by false true e = (refl, refl)
-    by false false e = cc
+kind_says : (a b : Bool) → KindSays (kind_by a b) a b
+kind_says true b = refl
+kind_says false true = (refl, refl)
+kind_says false false = (refl, refl)
 
-pub none_one : (plan : Plan) (x : ℕ) → kind_of plan x ≡ None → (is_one x plan.itm ≡ false) × (is_one x plan.stp ≡ false)
-none_one plan x e = by (is_one x plan.itm) (is_one x plan.stp) e
-  where
-    by : (a b : Bool) → kind_by a b ≡ None → (a ≡ false) × (b ≡ false)
-    by true b e = cc
-    by false true e = cc
-    by false false e = (refl, refl)
+pub lists_by : (plan : Plan) (x : ℕ) (kind : Option SourceKind) → kind_of plan x ≡ kind →
+    KindSays kind (is_one x plan.itm) (is_one x plan.stp)
+lists_by plan x kind e =
+    let a = is_one x plan.itm in
+    let b = is_one x plan.stp in
+    subst (λ (k : Option SourceKind). KindSays k a b) e (kind_says a b)
 
 -- and the other way
 pub one_itm : (plan : Plan) (x : ℕ) → is_one x plan.itm ≡ true → kind_of plan x ≡ Some Itm
@@ -130,39 +109,27 @@ pub one_stp : (plan : Plan) (x : ℕ) → is_sound plan ≡ true → is_one x pl
 one_stp plan x s e =
     ap (λ (a : Bool). kind_by a (is_one x plan.stp)) (apart x plan.itm plan.stp s e) ∙ ap (λ (b : Bool). kind_by false b) e
 
--- a mapped source is not the null source
-pub mapped_low : (plan : Plan) (x : ℕ) (kind : SourceKind) → is_sound plan ≡ true → kind_of plan x ≡ Some kind → 1 ≤ x
-mapped_low plan x Itm s e = (one_range plan x s (ap (λ (a : Bool). a || is_one x plan.stp) (itm_one plan x e))).0
-mapped_low plan x Stp s e =
-    let k = stp_one plan x e in
-    (one_range plan x s (ap (λ (a : Bool). a || is_one x plan.stp) k.0 ∙ k.1)).0
+-- a mapped source is neither the null source nor the trigger source
+pub mapped_range : (plan : Plan) (x : ℕ) (kind : SourceKind) → is_sound plan ≡ true → kind_of plan x ≡ Some kind →
+    (1 ≤ x) × (x ≤ 111)
+mapped_range plan x Itm s e =
+    one_range plan x s (ap (λ (a : Bool). a || is_one x plan.stp) (lists_by plan x (Some Itm) e))
+mapped_range plan x Stp s e =
+    let k = lists_by plan x (Some Stp) e in
+    one_range plan x s (ap (λ (a : Bool). a || is_one x plan.stp) k.0 ∙ k.1)
 
-pub stp_in_order : (plan : Plan) (x : ℕ) → is_sound plan ≡ true → kind_of plan x ≡ Some Stp → is_one x (in_order plan.stp) ≡ true
+pub stp_in_order : (plan : Plan) (x : ℕ) → is_sound plan ≡ true → kind_of plan x ≡ Some Stp →
+    is_one x (in_order plan.stp) ≡ true
 stp_in_order plan x s e =
-    let k = stp_one plan x e in
-    let range = one_range plan x s (ap (λ (a : Bool). a || is_one x plan.stp) k.0 ∙ k.1) in
-    in_order_among plan.stp x range.0 (omega (arith, range.1)) ∙ k.1
+    let range = mapped_range plan x Stp s e in
+    in_order_among plan.stp x range.0 (omega (arith, range.1)) ∙ (lists_by plan x (Some Stp) e).1
 
-pub null_none : (plan : Plan) → is_sound plan ≡ true → kind_of plan 0 ≡ None
-null_none plan s = by (kind_of plan 0) refl
-  where
-    by : (o : Option SourceKind) → kind_of plan 0 ≡ o → o ≡ None
-    by None e = refl
-    by (Some kind) e = (let k : 1 ≤ 0 = mapped_low plan 0 kind s e in absurd (omega arith))
-
--- the trigger source is not mapped
 pub trigger_none : (plan : Plan) → is_sound plan ≡ true → kind_of plan 125 ≡ None
 trigger_none plan s = by (kind_of plan 125) refl
   where
-    high : (kind : SourceKind) → kind_of plan 125 ≡ Some kind → 125 ≤ 111
-    high Itm e = (one_range plan 125 s (ap (λ (a : Bool). a || is_one 125 plan.stp) (itm_one plan 125 e))).1
-    high Stp e =
-        let k = stp_one plan 125 e in
-        (one_range plan 125 s (ap (λ (a : Bool). a || is_one 125 plan.stp) k.0 ∙ k.1)).1
-
     by : (o : Option SourceKind) → kind_of plan 125 ≡ o → o ≡ None
     by None e = refl
-    by (Some kind) e = (let k = high kind e in absurd (omega (arith, k)))
+    by (Some kind) e = (let k = mapped_range plan 125 kind s e in absurd (omega (arith, k.1)))
 
 -- a source of another kind is not among the STP sources
 pub other_out : (plan : Plan) (x : ℕ) → is_sound plan ≡ true → (kind_of plan x ≡ Some Stp → ⊥) →
@@ -172,5 +139,5 @@ other_out plan x s other = by (is_one x (in_order plan.stp)) refl
     by : (v : Bool) → is_one x (in_order plan.stp) ≡ v → v ≡ false
     by false e = refl
     by true e =
-        let range = in_range x (in_order plan.stp) (in_order_sound plan.stp (sound_back plan.itm plan.stp s)) e in
+        let range = sound_within (in_order plan.stp) (in_order_sound plan.stp (sound_back plan.itm plan.stp s)) x e in
         absurd (other (one_stp plan x s (sym (in_order_among plan.stp x range.0 (omega (arith, range.1))) ∙ e)))

@@ -1,24 +1,14 @@
 -- The shortest bytes of packets, one after the other, read as these packets.
-use Rattle.std.proofs.Common.{◌≡◌, List, [], ◌∷◌, ◌++◌, length, refl, ◌∙◌, ap, false, None, map}
-use Rattle.trace_values.specs.Placed.{Place, Placed, units_of}
-use Rattle.trace_values.specs.Walk.{by_unit}
-use Rattle.trace_values.specs.Reading.{Progress, progress_from}
-use Rattle.trace_values.specs.Stream.{Said, Kept, kept}
-use Rattle.trace_values.proofs.Sequences.{all_read, plain}
-use Rattle.itm_grammar.specs.declared.packet.ItmPacket.{ItmPacket}
+use Rattle.std.proofs.Common.{◌≡◌, List, [], ◌∷◌, length, refl, ◌∙◌, ap, false, None, map}
+use Rattle.script_laws.specs.Names.{Place, Placed, units_of, Said, Kept, kept, ItmPacket, short, packets_in}
+use Rattle.trace_values.specs.Reading.{Progress}
+use Rattle.trace_values.proofs.Sequences.{all_read}
 use Rattle.itm_grammar.specs.declared.partial.Partial.{Partial}
 use Rattle.itm_grammar.specs.declared.partial.Partial.TheVariants.{Header}
 use Rattle.itm_grammar.specs.Rule.{rule}
-use Rattle.itm_grammar.specs.Shortest.{short}
 use Rattle.itm_grammar.proofs.Deciding.{decided}
 use Rattle.itm_grammar.proofs.ShortSpellings.{shortest}
-use Rattle.itm_codec.specs.Reading.{packets_in}
 use Rattle.script_laws.proofs.Bytes.{spelled, AreProper}
-
-reads_packets : (packets : List ItmPacket) → AreProper packets → (u : List Placed) → units_of u ≡ spelled packets → (items : List (ItmPacket × Place)) →
-    (more : List (ItmPacket × Place)) × (map (λ (x : ItmPacket × Place). x.0) more ≡ packets)
-    × (progress_from (by_unit rule) Header (plain rule Header short items) u ≡ plain rule Header short (items ++ more))
-reads_packets = all_read rule Header short AreProper (λ p packets h. (decided.complete p (short p) (shortest p h.0).spells, h.1))
 
 -- what packets in a row are read as: these packets, with no fault and no rest
 pub record IsReadAs (u : List Placed) (packets : List ItmPacket) : Type 0 where
@@ -32,7 +22,8 @@ said (x ∷ items) = ap (λ (l : List (Said ItmPacket)). Kept x.0 ∷ l) (said i
 
 pub read_as : (packets : List ItmPacket) → AreProper packets → (u : List Placed) → units_of u ≡ spelled packets → IsReadAs u packets
 read_as packets h u e =
-    let r = reads_packets packets h u e [] in
+    let r = all_read rule Header short AreProper
+    (λ p packets h. (decided.complete p (short p) (shortest p h.0).spells, h.1)) packets h u e [] in
     record {
       given = ap (λ (p : Progress Partial ItmPacket). map (λ (x : Said ItmPacket × Place). x.0) (kept p.items)) r.2 ∙ said r.0 ∙ ap (map Kept) r.1;
       fault = ap (λ (p : Progress Partial ItmPacket). p.fault) r.2;

@@ -1,68 +1,44 @@
 -- What the lines of a script are rebuilt to, straight or through a funnel, reads back as what they give.
-use Rattle.std.proofs.Common.{◌≡◌, ◌≤◌, ℕ, List, [], ◌∷◌, ◌++◌, refl, sym, ◌∙◌, ap, subst}
-use Rattle.std.proofs.Common.{Bool, true, false, cond, arith, Option, None, Some}
-use Rattle.std.specs.Prelude.{◌==◌, ◌&&◌, ◌||◌, nat_le}
-use Rattle.std.specs.List.{All, list_any}
+use Rattle.std.proofs.Common.{◌≡◌, ◌≤◌, ℕ, List, [], ◌∷◌, ◌++◌, refl, sym, ◌∙◌, ap, subst, Bool, true, false, cond}
+use Rattle.std.proofs.Common.{arith, Option, None, Some, ◌==◌, ◌&&◌, ◌||◌, nat_le, All}
+use Rattle.std.specs.List.{list_any}
 use Rattle.std.proofs.lemmas.Bool.Decides.{nat_tests}
-use Rattle.std.proofs.lemmas.List.Elements.{All-nil, All-cons, All-head, All-tail}
-use Rattle.frame_writer.specs.ReadBack.{IsOfSource}
-use Rattle.frame_writer.specs.Written.{Tagged, joined, written_segments}
-use Rattle.script_laws.proofs.Bytes.{bytes_for, for_append, none_bytes, all_sources}
+use Rattle.std.proofs.lemmas.List.Elements.{All-nil, All-cons}
+use Rattle.script_laws.specs.Names.{IsOfSource, Tagged, joined, written_segments, routed_script, is_routed, are_routed}
+use Rattle.script_laws.specs.Names.{are_placed, placed_front, script_segments, script_of, RebuildPlan, Of, Line2, One}
+use Rattle.script_laws.specs.Names.{Trigger, is_sound, Plan, are_of, placed, Turns, to_funnel, all_passed, IsSaid2}
+use Rattle.script_text.proofs.Hexadecimals.{and_left, and_right}
+use Rattle.script_laws.proofs.Bytes.{bytes_for, for_append, none_bytes}
 use Rattle.script_laws.proofs.Given.{any_reads_as_given}
 use Rattle.script_laws.specs.Puts.{CanAllBePut}
 use Rattle.script_laws.specs.ReadBack.{rebuilt, IsFair, is_line_of, has_line, ReadsAsGiven}
-use Rattle.script_rebuild.specs.Rebuilt.{routed_script}
-use Rattle.script_rebuild.specs.Routed.{is_routed, are_routed, are_placed}
-use Rattle.script_rebuild.specs.RoutedLaws.{placed_front}
-use Rattle.script_rebuild.specs.Segments.{script_segments}
-use Rattle.script_rebuild.specs.Versions.{script_of}
-use Rattle.script_rebuild.specs.declared.plan.RebuildPlan.{RebuildPlan}
-use Rattle.script_text.specs.declared.lines.Line.TheVariants.{Nothing, Of}
-use Rattle.script_text.specs.declared.version_two.Line2.{Line2}
-use Rattle.script_text.specs.declared.version_two.Line2.TheVariants.{One, Flush, Trigger}
-use Rattle.source_events.specs.Plan.{is_sound}
-use Rattle.source_events.specs.declared.plan.Plan.{Plan}
-use Rattle.trace_funnel.specs.Acts.{are_of}
-use Rattle.trace_funnel.specs.Order.{are_apart}
-use Rattle.trace_values.specs.Placed.{placed}
-use Rattle.trace_funnel.specs.declared.turns.Turns.{Turns}
-use Rattle.port_formatter.specs.Passed.{to_funnel, all_passed}
 use Rattle.script_laws.proofs.Kept.{all_kept}
 use Rattle.script_laws.proofs.Said.{script_good}
 
--- a line of a source is of one with a place
-line_has : (order : List ℕ) (x : ℕ) (line : Line2) → is_routed order line ≡ true → is_line_of x line ≡ true →
-    list_any (λ y. y == x) order ≡ true
-line_has order x (One Nothing) r e = absurd (let no = e in cc)
-line_has order x (One (Of id item)) r e =
-    let same : id ≡ x = grind (arith, nat_tests) in
-    subst (λ (n : ℕ). list_any (λ y. y == n) order ≡ true) same r
-line_has order x Flush r e = absurd (let no = e in cc)
-line_has order x (Trigger byte) r e =
-    let same : 125 ≡ x = grind (arith, nat_tests) in
-    subst (λ (n : ℕ). list_any (λ y. y == n) order ≡ true) same r
-
-lines_have : (order : List ℕ) (x : ℕ) (lines : List Line2) → are_routed order lines ≡ true → has_line x lines ≡ true →
-    list_any (λ y. y == x) order ≡ true
-lines_have order x [] r e = absurd (let no = e in cc)
-lines_have order x (line ∷ lines) r e =
-    by (is_routed order line) (is_line_of x line) refl refl r e (λ c d. lines_have order x lines c d)
+-- no line with a place is of a source without one
+not_placed : (order : List ℕ) (x id : ℕ) → list_any (λ y. y == id) order ≡ true →
+    list_any (λ y. y == x) order ≡ false → (id == x) ≡ false
+not_placed order x id r e = by (id == x) refl
   where
-    by : (v w : Bool) → is_routed order line ≡ v → is_line_of x line ≡ w → (v && are_routed order lines) ≡ true →
-        (w || has_line x lines) ≡ true →
-        (are_routed order lines ≡ true → has_line x lines ≡ true → list_any (λ y. y == x) order ≡ true) →
-        list_any (λ y. y == x) order ≡ true
-    by true true a b c d further = line_has order x line a b
-    by true false a b c d further = further c d
-    by false w a b c d further = absurd (let no = c in cc)
+    by : (v : Bool) → (id == x) ≡ v → v ≡ false
+    by true h =
+        let same : id ≡ x = grind (arith, nat_tests) in
+        sym r ∙ ap (λ (n : ℕ). list_any (λ y. y == n) order) same ∙ e
+    by false h = refl
+
+other_route : (order : List ℕ) (x : ℕ) (line : Line2) → is_routed order line ≡ true →
+    list_any (λ y. y == x) order ≡ false → is_line_of x line ≡ false
+other_route order x (One (Of id item)) r e = not_placed order x id r e
+other_route order x (Trigger byte) r e = not_placed order x 125 r e
+other_route order x line r e = refl
 
 none_has : (order : List ℕ) (x : ℕ) (lines : List Line2) → are_routed order lines ≡ true →
     list_any (λ y. y == x) order ≡ false → has_line x lines ≡ false
-none_has order x lines r e = by (has_line x lines) refl
-  where
-    by : (v : Bool) → has_line x lines ≡ v → v ≡ false
-    by true h = absurd (let no = sym (lines_have order x lines r h) ∙ e in cc)
-    by false h = refl
+none_has order x [] r e = refl
+none_has order x (line ∷ lines) r e =
+    ap (λ (v : Bool). v || has_line x lines)
+    (other_route order x line (and_left (is_routed order line) (are_routed order lines) r) e)
+    ∙ none_has order x lines (and_right (is_routed order line) (are_routed order lines) r) e
 
 -- bytes of no other source than those that have one
 self_is : (x : ℕ) → (x == x) ≡ true
@@ -97,18 +73,24 @@ of_order order (b ∷ bytes) none =
 abbrev in_range : ℕ → Bool
 in_range x = nat_le 1 x && nat_le x 126
 
-outside : (x : ℕ) (bytes : List Tagged) → All IsOfSource bytes → in_range x ≡ false → bytes_for x bytes ≡ []
-outside x [] all e = refl
-outside x (b ∷ bytes) all e = by (b.id == x) refl (outside x bytes (All-tail IsOfSource b bytes all) e)
+from_others : (x id : ℕ) → 1 ≤ id → id ≤ 126 → in_range x ≡ false → (id == x) ≡ false
+from_others x id low high out = by (id == x) refl
   where
-    by : (v : Bool) → (b.id == x) ≡ v → bytes_for x bytes ≡ [] →
-        cond v (b.byte ∷ bytes_for x bytes) (bytes_for x bytes) ≡ []
-    by true h rest =
-        let first = All-head IsOfSource b bytes all in
-        let named = first.named in
-        let within = first.in_range in
-        absurd (grind (arith, nat_tests))
-    by false h rest = rest
+    by : (v : Bool) → (id == x) ≡ v → v ≡ false
+    by true e = absurd (grind (arith, nat_tests))
+    by false e = refl
+
+other_line : (plan : Plan) (x : ℕ) (line : Line2) → in_range x ≡ false → IsSaid2 plan line → is_line_of x line ≡ false
+other_line plan x (One (Of id item)) out said = from_others x id said.0 said.1 out
+other_line plan x (Trigger byte) out said = from_others x 125 (omega arith) (omega arith) out
+other_line plan x line out said = refl
+
+no_line : (plan : Plan) (x : ℕ) (before lines : List Line2) → in_range x ≡ false → CanAllBePut plan before lines →
+    has_line x lines ≡ false
+no_line plan x before [] out good = refl
+no_line plan x before (line ∷ lines) out good =
+    ap (λ (v : Bool). v || has_line x lines) (other_line plan x line out good.0.said)
+    ∙ no_line plan x (before ++ line ∷ []) lines out good.1
 
 inside : (bytes : List Tagged) → ((x : ℕ) → in_range x ≡ false → bytes_for x bytes ≡ []) → All IsOfSource bytes
 inside [] none = All-nil IsOfSource
@@ -126,15 +108,6 @@ none_of_both (y ∷ a) b e = absurd (let no = e in cc)
 abbrev AreNamed : List (List Tagged) → Type 0
 AreNamed segments = All (λ (bytes : List Tagged). All IsOfSource bytes) segments
 
-all_outside : (x : ℕ) (segments : List (List Tagged)) → AreNamed segments → in_range x ≡ false →
-    bytes_for x (joined segments) ≡ []
-all_outside x [] all e = refl
-all_outside x (segment ∷ rest) all e =
-    for_append x segment (joined rest)
-    ∙ ap (λ (l : List ℕ). l ++ bytes_for x (joined rest))
-    (outside x segment (All-head (λ (l : List Tagged). All IsOfSource l) segment rest all) e)
-    ∙ all_outside x rest (All-tail (λ (l : List Tagged). All IsOfSource l) segment rest all) e
-
 all_inside : (segments : List (List Tagged)) →
     ((x : ℕ) → in_range x ≡ false → bytes_for x (joined segments) ≡ []) → AreNamed segments
 all_inside [] none = All-nil (λ (l : List Tagged). All IsOfSource l)
@@ -147,36 +120,24 @@ all_inside (segment ∷ rest) none =
         none_of_both (bytes_for x segment) (bytes_for x (joined rest))
         (sym (for_append x segment (joined rest)) ∙ none x e)
 
--- what lines put straight, and what a funnel passes on of it
+-- segments in which each source has the bytes that lines put: those that are put straight, and what a funnel passes on
 module _ (every halves : ℕ) (plan : Plan) (lines : List Line2) (sound : is_sound plan ≡ true)
     (good : CanAllBePut plan [] lines) where
-  straight_reads : ReadsAsGiven plan lines (placed (written_segments every halves (script_segments plan lines)))
-  straight_reads =
-      any_reads_as_given every halves plan lines sound good (script_segments plan lines)
-      (all_sources plan sound lines good) (λ x. refl)
-
-  module _ (t : Turns) (some : 1 ≤ t.hold) (apart : are_apart t.order ≡ true)
-      (all : are_routed t.order lines ≡ true) where
-    abbrev put : List Tagged
-    put = joined (script_segments plan lines)
-
-    same : (x : ℕ) → bytes_for x (joined (all_passed t (script_segments plan lines))) ≡ bytes_for x put
-    same = all_kept t (script_segments plan lines) some apart
-        (of_order t.order put (λ x e. none_bytes plan x sound lines good (none_has t.order x lines all e)))
-
-    funnelled_reads :
-        ReadsAsGiven plan lines (placed (written_segments every halves (all_passed t (script_segments plan lines))))
-    funnelled_reads =
-        any_reads_as_given every halves plan lines sound good (all_passed t (script_segments plan lines))
-        (all_inside (all_passed t (script_segments plan lines))
-        (λ x e. same x ∙ all_outside x (script_segments plan lines) (all_sources plan sound lines good) e))
-        same
+  reads : (segments : List (List Tagged)) →
+      ((x : ℕ) → bytes_for x (joined segments) ≡ bytes_for x (joined (script_segments plan lines))) →
+      ReadsAsGiven plan lines (placed (written_segments every halves segments))
+  reads segments kept =
+      any_reads_as_given every halves plan lines sound good segments
+      (all_inside segments (λ x e. kept x ∙ none_bytes plan x sound lines good (no_line plan x [] lines e good))) kept
 
   pub port_reads : (funnel : Option Turns) → IsFair funnel → are_placed funnel lines ≡ true →
       (let p : RebuildPlan = record { plan = plan; every = every; halves = halves; funnel = funnel } in
       ReadsAsGiven plan lines (rebuilt p lines))
-  port_reads None fair all = straight_reads
-  port_reads (Some turns) fair all = funnelled_reads turns fair.0 fair.1 all
+  port_reads None fair all = reads (script_segments plan lines) (λ x. refl)
+  port_reads (Some t) fair all =
+      let segments = script_segments plan lines in
+      reads (all_passed t segments) (all_kept t segments fair.0 fair.1
+      (of_order t.order (joined segments) (λ x e. none_bytes plan x sound lines good (none_has t.order x lines all e))))
 
 -- lines before others can be put where all can
 front_good : (plan : Plan) (before front rest : List Line2) → CanAllBePut plan before (front ++ rest) →

@@ -1,30 +1,18 @@
 -- The lines of a script up to its first fault: each can be said, of its source, and its STP items can be written.
-use Rattle.std.proofs.Common.{◌≡◌, ℕ, List, [], ◌∷◌, ◌++◌, length, refl, sym, ◌∙◌, ap, subst, arith, append-nil, append_assoc, Bool, true, false, Result, Ok, Err}
-use Rattle.std.specs.Prelude.{◌==◌, nat_lt, if◌then◌else◌}
+use Rattle.std.proofs.Common.{◌≡◌, ℕ, List, [], ◌∷◌, ◌++◌, length, refl, sym, ◌∙◌, ap, subst, arith, append-nil}
+use Rattle.std.proofs.Common.{append_assoc, Bool, true, false, Result, Ok, Err, ◌==◌, nat_lt, if◌then◌else◌, bytes_eq}
 use Rattle.std.proofs.lemmas.Bool.Decides.{nat_tests}
 use Rattle.std.proofs.lemmas.List.Concat.{flat_map-append}
-use Rattle.stp_grammar.specs.declared.item.StpItem.{StpItem}
-use Rattle.stp_encoder.specs.Fitting.{version_after as version_after_items, is_unfit, AreFitting}
+use Rattle.script_laws.specs.Names.{StpItem, is_unfit, AreFitting, Plan, Item, Stp, Line, Nothing, Of, LineFault}
+use Rattle.script_laws.specs.Names.{LongLine, BadLine, Unfit, are_printable, words_in, are_words, line_of}
+use Rattle.script_laws.specs.Names.{line_of_words, is_nothing, IsSaid, Line2, One, Flush, Trigger, as_one, line2_of}
+use Rattle.script_laws.specs.Names.{IsSaid2, Version, Unknown, First, Second, by_item, items_of, items_by, given_items}
+use Rattle.script_laws.specs.Names.{fitting_item, fitting_one, fitting, header, version_after, says, says_one}
+use Rattle.script_laws.specs.Names.{script_of, lines_in}
+use Rattle.stp_encoder.specs.Fitting.{version_after as version_after_items}
 use Rattle.stp_encoder.proofs.Fitted.{none_fit, more_fit}
-use Rattle.source_events.specs.declared.plan.Plan.{Plan}
-use Rattle.script_text.specs.declared.items.Item.{Item}
-use Rattle.script_text.specs.declared.items.Item.TheVariants.{Itm, Dwt, Stp, Raw}
-use Rattle.script_text.specs.declared.lines.Line.{Line}
-use Rattle.script_text.specs.declared.lines.Line.TheVariants.{Nothing, Of}
-use Rattle.script_text.specs.declared.line_fault.LineFault.{LineFault}
-use Rattle.script_text.specs.declared.line_fault.LineFault.TheVariants.{LongLine, BadLine, Unfit}
-use Rattle.script_text.specs.Words.{are_printable, words_in, are_words}
-use Rattle.std.specs.Str.{bytes_eq}
-use Rattle.script_text.specs.Lines.{line_of, line_of_words, is_nothing, ◌>>=◌}
-use Rattle.script_text.specs.Said.{IsSaid}
+use Rattle.script_text.specs.Lines.{◌>>=◌}
 use Rattle.script_text.proofs.LineRanges.{ok_of, words_said_if}
-use Rattle.script_text.specs.declared.version_two.Line2.{Line2}
-use Rattle.script_text.specs.declared.version_two.Line2.TheVariants.{One, Flush, Trigger}
-use Rattle.script_text.specs.VersionTwo.{as_one, line2_of, IsSaid2}
-use Rattle.script_rebuild.specs.declared.version.Version.{Version}
-use Rattle.script_rebuild.specs.declared.version.Version.TheVariants.{Unknown, First, Second}
-use Rattle.script_rebuild.specs.Script.{by_item, items_of, items_by, given_items}
-use Rattle.script_rebuild.specs.Versions.{fitting_item, fitting_one, fitting, header, version_after, says, says_one, script_of, lines_in}
 use Rattle.script_laws.specs.Puts.{CanBePut, CanAllBePut}
 use Rattle.script_laws.proofs.Texts.{AreFrom, read_from}
 use Rattle.script_laws.proofs.TriggerLaw.{trigger_small, one_only}
@@ -42,14 +30,12 @@ line_said plan text line e = by (nat_lt 256 (length text)) (is_nothing text) (ar
 
 -- what fits is the line itself
 item_same : (line other : Line) (before : List StpItem) (item : Item) → fitting_item line before item ≡ Ok other → line ≡ other
-item_same line other before (Itm p) e = ok_of line other e
-item_same line other before (Dwt d) e = ok_of line other e
-item_same line other before (Raw bytes) e = ok_of line other e
 item_same line other before (Stp item) e = by (is_unfit (version_after_items before) item) e
   where
     by : (v : Bool) → (if v then Err Unfit else Ok line) ≡ Ok other → line ≡ other
     by true e = cc
     by false e = ok_of line other e
+item_same line other before item e = ok_of line other e
 
 one_same : (before : List Line2) (line other : Line) → fitting_one before line ≡ Ok other → line ≡ other
 one_same before Nothing other e = ok_of Nothing other e
@@ -126,17 +112,12 @@ is_fit line false e = refl
 
 item_fits : (plan : Plan) (x : ℕ) (before : List Line2) (item : Item) → CanBePut plan before (One (Of x item)) → AreFitting (given_items x before) →
     AreFitting (given_items x before ++ items_of item)
-item_fits plan x before (Itm p) g h = subst AreFitting (sym (append-nil (given_items x before))) h
-item_fits plan x before (Dwt d) g h = subst AreFitting (sym (append-nil (given_items x before))) h
-item_fits plan x before (Raw bytes) g h = subst AreFitting (sym (append-nil (given_items x before))) h
 item_fits plan x before (Stp item) g h =
     more_fit (given_items x before) item h g.said.2.0 (is_fit (Of x (Stp item)) (is_unfit (version_after_items (given_items x before)) item) g.fits)
+item_fits plan x before item g h = subst AreFitting (sym (append-nil (given_items x before))) h
 
 line_fits : (plan : Plan) (x : ℕ) (before : List Line2) (line : Line2) → CanBePut plan before line → AreFitting (given_items x before) →
     AreFitting (given_items x before ++ by_item (items_by x) line)
-line_fits plan x before (One Nothing) g h = subst AreFitting (sym (append-nil (given_items x before))) h
-line_fits plan x before Flush g h = subst AreFitting (sym (append-nil (given_items x before))) h
-line_fits plan x before (Trigger byte) g h = subst AreFitting (sym (append-nil (given_items x before))) h
 line_fits plan x before (One (Of id item)) g h = by (id == x) refl
   where
     by : (v : Bool) → (id == x) ≡ v → AreFitting (given_items x before ++ (if v then items_of item else []))
@@ -144,6 +125,7 @@ line_fits plan x before (One (Of id item)) g h = by (id == x) refl
         let same : id ≡ x = grind (arith, nat_tests) in
         item_fits plan x before item (subst (λ (k : ℕ). CanBePut plan before (One (Of k item))) same g) h
     by false e = subst AreFitting (sym (append-nil (given_items x before))) h
+line_fits plan x before line g h = subst AreFitting (sym (append-nil (given_items x before))) h
 
 items_fit : (plan : Plan) (x : ℕ) (before lines : List Line2) → CanAllBePut plan before lines → AreFitting (given_items x before) →
     AreFitting (given_items x (before ++ lines))

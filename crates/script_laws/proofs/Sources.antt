@@ -1,19 +1,11 @@
 -- The list of a source in a written capture is its bytes.
 use Rattle.std.proofs.Common.{◌≡◌, ◌≢◌, ℕ, List, [], ◌∷◌, refl, ◌∙◌, ap, arith, Bool, true, false, Option, Some, None}
-use Rattle.std.proofs.Common.{map, cond}
-use Rattle.std.specs.Prelude.{◌==◌, not, if◌then◌else◌}
+use Rattle.std.proofs.Common.{map, cond, ◌==◌, not, if◌then◌else◌}
 use Rattle.std.proofs.lemmas.Bool.Decides.{nat_tests}
-use Rattle.trace_values.specs.declared.cell.Cell.{Cell}
-use Rattle.trace_values.specs.Placed.{Placed, units_of, placed}
-use Rattle.trace_values.specs.declared.reading_modes.FramesMode.TheVariants.{Aligned}
-use Rattle.frame_grammar.specs.Reading.{is_source, source_list}
+use Rattle.script_laws.specs.Names.{Cell, Placed, units_of, placed, Aligned, is_source, source_list, cells_of, Tagged}
+use Rattle.script_laws.specs.Names.{ReadsBack, seen, as_seen, source_cells, list_of, runs_in}
 use Rattle.frame_grammar.specs.SourceBytes.{source_units}
-use Rattle.deformatter.specs.PortReading.{cells_of}
 use Rattle.deformatter.proofs.PortReadingLaws.{frames_have_runs}
-use Rattle.frame_writer.specs.Written.{Tagged}
-use Rattle.frame_writer.specs.ReadBack.{ReadsBack, seen, as_seen, source_cells}
-use Rattle.source_events.specs.Runs.{list_of}
-use Rattle.source_events.specs.Report.{runs_in}
 use Rattle.source_events.proofs.RunNumbers.{lists_are}
 use Rattle.script_laws.specs.ReadBack.{port_of}
 use Rattle.script_laws.proofs.Bytes.{bytes_for}

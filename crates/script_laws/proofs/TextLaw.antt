@@ -1,31 +1,21 @@
 -- The text of an item reads back as that item.
-use Rattle.std.proofs.Common.{◌≡◌, ℕ, ◌<◌, ◌≤◌, ◌^◌, List, [], ◌∷◌, ◌++◌, length, length-append, refl, sym, ◌∙◌, ap, arith, true, Some, subst}
-use Rattle.std.specs.Prelude.{decimal, codes, nat_le}
+use Rattle.std.proofs.Common.{◌≡◌, ℕ, ◌<◌, ◌≤◌, ◌^◌, List, [], ◌∷◌, ◌++◌, length, length-append, refl, sym, ◌∙◌, ap}
+use Rattle.std.proofs.Common.{arith, true, Some, subst, decimal, codes, nat_le}
 use Rattle.std.proofs.lemmas.Bool.Decides.{nat_tests}
 use Rattle.std.proofs.lemmas.Fmt.{length-decimal-le}
 use Rattle.hex.specs.Hex.{encode_lower, lower_digits}
 use Rattle.hex.proofs.HexLemmas.{length-encode_with}
+use Rattle.script_laws.specs.Names.{DwtItem, IsProperItem as IsProperStp, StpItem, Plan, kind_of, Event, Packet}
+use Rattle.script_laws.specs.Names.{hardware_text, stp_text, Item, Itm, Dwt, Stp, Raw, taken_by, line_of, text_of}
+use Rattle.script_laws.specs.Names.{IsSayable}
 use Rattle.itm_grammar.specs.declared.packet.ItmPacket.TheVariants as itm
 use Rattle.dwt_packets.specs.Packet.{IsProperItem}
-use Rattle.dwt_packets.specs.declared.item.DwtItem.{DwtItem}
-use Rattle.stp_grammar.specs.Proper.{IsProperItem as IsProperStp}
-use Rattle.stp_grammar.specs.declared.item.StpItem.{StpItem}
-use Rattle.source_events.specs.declared.plan.Plan.{Plan}
-use Rattle.source_events.specs.Plan.{kind_of}
-use Rattle.source_events.specs.declared.event.Event.{Event}
 use Rattle.source_events.specs.declared.event.What.TheVariants.{Packet as Said}
-use Rattle.source_events.specs.declared.packet.Packet.{Packet}
 use Rattle.source_events.specs.declared.packet.Packet.TheVariants as packets
-use Rattle.trace_text.specs.HardwareText.{hardware_text}
-use Rattle.trace_text.specs.StpText.{stp_text}
 use Rattle.trace_text.specs.declared.remark.Remark.TheVariants.{None as NoRemark}
 use Rattle.trace_text.proofs.LongestLines.{item as item_short, event as event_short}
-use Rattle.script_text.specs.declared.items.Item.{Item}
-use Rattle.script_text.specs.declared.items.Item.TheVariants.{Itm, Dwt, Stp, Raw}
-use Rattle.script_text.specs.Lines.{taken_by, line_of}
 use Rattle.script_text.specs.Quick.{BeginsWithNumber, SaysItem}
 use Rattle.script_text.proofs.PacketLines.{joined_says, item_of_line, line_says}
-use Rattle.script_text.specs.Said.{text_of, IsSayable}
 use Rattle.script_text.proofs.Joining.{joined, decimal_word, word_graphic}
 use Rattle.script_laws.proofs.Items.{words_of, shape_of, text_joined}
 use Rattle.script_laws.proofs.AllItems.{words_all, few_words, named, item_reads}

@@ -1,12 +1,8 @@
 -- A script is read text by text, up to the first fault.
-use Rattle.std.proofs.Common.{◌≡◌, ℕ, zero, suc, ◌+◌, ◌<◌, ◌≤◌, List, [], ◌∷◌, ◌++◌, length, take, refl, sym, ◌∙◌, ap, subst, arith}
-use Rattle.std.proofs.Common.{append-nil, append_assoc, Option, None, Some, Result, Ok, Err}
-use Rattle.source_events.specs.declared.plan.Plan.{Plan}
-use Rattle.script_text.specs.declared.version_two.Line2.{Line2}
-use Rattle.script_text.specs.declared.line_fault.LineFault.{LineFault}
-use Rattle.script_rebuild.specs.declared.version.Version.{Version}
-use Rattle.script_rebuild.specs.declared.version.Version.TheVariants.{Unknown}
-use Rattle.script_rebuild.specs.Versions.{Reading, version_after, version_then, says, read_on, read_in, read_texts}
+use Rattle.std.proofs.Common.{◌≡◌, ℕ, zero, suc, ◌+◌, ◌<◌, ◌≤◌, List, [], ◌∷◌, ◌++◌, length, take, refl, sym, ◌∙◌, ap}
+use Rattle.std.proofs.Common.{subst, arith, append-nil, append_assoc, Option, None, Some, Result, Ok, Err}
+use Rattle.script_laws.specs.Names.{Plan, Line2, LineFault, Version, Unknown, Reading, version_after, version_then}
+use Rattle.script_laws.specs.Names.{says, read_on, read_in, read_texts}
 use Rattle.script_laws.specs.Reading.{text_at, line_at, AreLinesOf, EndsWith}
 
 -- what the text of this number says after lines, where this is known of the version before the texts

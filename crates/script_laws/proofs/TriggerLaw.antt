@@ -1,28 +1,21 @@
 -- A line of version 2 that says a trigger is the text of that trigger, with its digits in lower case.
-use Rattle.std.proofs.Common.{◌≡◌, ℕ, ◌<◌, List, [], ◌∷◌, ◌++◌, length, map, refl, sym, ◌∙◌, ap, arith, Bool, true, false, Option, Some, None, Result, Ok, Err}
-use Rattle.std.specs.Prelude.{◌==◌, codes, decimal, nat_lt, if◌then◌else◌, ok_or}
+use Rattle.std.proofs.Common.{◌≡◌, ℕ, ◌<◌, List, [], ◌∷◌, ◌++◌, length, map, refl, sym, ◌∙◌, ap, arith, Bool, true}
+use Rattle.std.proofs.Common.{false, Option, Some, None, Result, Ok, Err, ◌==◌, codes, decimal, nat_lt, if◌then◌else◌}
+use Rattle.std.proofs.Common.{ok_or, bytes_eq}
 use Rattle.std.specs.Fmt.{digits}
-use Rattle.std.specs.Str.{bytes_eq}
 use Rattle.std.proofs.lemmas.Slice.Eq.{bytes_eq-Decides}
 use Rattle.std.proofs.lemmas.List.Splits.{join_with_byte-slice_split}
 use Rattle.hex.specs.Hex.{encode_lower, encode_with}
-use Rattle.trace_text.specs.HexDigits.{hex_digits}
-use Rattle.decimal_words.specs.Numbers.{number_named}
-use Rattle.source_events.specs.declared.plan.Plan.{Plan}
-use Rattle.script_text.specs.declared.lines.Line.{Line}
-use Rattle.script_text.specs.declared.lines.Line.TheVariants.{Nothing}
-use Rattle.script_text.specs.declared.version_two.Line2.{Line2}
-use Rattle.script_text.specs.declared.version_two.Line2.TheVariants.{One, Flush, Trigger}
-use Rattle.script_text.specs.declared.line_fault.LineFault.{LineFault}
-use Rattle.script_text.specs.declared.line_fault.LineFault.TheVariants.{LongLine, BadLine, BadId, BadNumber, Mixed}
-use Rattle.script_text.specs.Words.{are_printable, words_in, are_words, word_of}
-use Rattle.script_text.specs.Numbers.{hexadecimal_named, hexadecimal_at}
-use Rattle.script_text.specs.Lines.{◌>>=◌, line_of_words, line_of, is_nothing}
+use Rattle.script_laws.specs.Names.{number_named, Plan, Line, Nothing, Line2, One, Trigger, LineFault, LongLine}
+use Rattle.script_laws.specs.Names.{BadLine, BadId, BadNumber, Mixed, are_printable, words_in, are_words, word_of}
+use Rattle.script_laws.specs.Names.{hexadecimal_named, hexadecimal_at, line_of_words, line_of, is_nothing, flush_line}
+use Rattle.script_laws.specs.Names.{is_trigger, trigger_said, as_one, line2_of}
+use Rattle.script_text.specs.Lines.{◌>>=◌}
 use Rattle.script_text.proofs.Hexadecimals.{hexadecimal_small}
-use Rattle.script_text.specs.VersionTwo.{flush_line, is_trigger, trigger_said, as_one, line2_of}
 use Rattle.script_text.proofs.NewLines.{two_by, too_many}
 use Rattle.script_laws.specs.Lowered.{lowered}
-use Rattle.script_laws.proofs.Digits.{below, below_holds, same_number}
+use Rattle.script_text.proofs.DigitTable.{below, below_holds}
+use Rattle.script_laws.proofs.Digits.{same_number}
 use Rattle.script_text.proofs.Joining.{joined}
 use Rattle.script_laws.proofs.Items.{byte_is}
 use Rattle.script_laws.proofs.Lowering.{number_lowered, hexadecimal_lowered}
@@ -32,21 +25,17 @@ use Rattle.script_laws.proofs.LineLaw.{joined_low}
 -- each trigger is read: all 256 of them
 abbrev says_trigger : Result Line2 LineFault → ℕ → Bool
 says_trigger (Ok (Trigger found)) byte = found == byte
-says_trigger (Ok (One line)) byte = false
-says_trigger (Ok Flush) byte = false
-says_trigger (Err fault) byte = false
+says_trigger answer byte = false
 
 says_so : (r : Result Line2 LineFault) (byte : ℕ) → says_trigger r byte ≡ true → r ≡ Ok (Trigger byte)
 says_so (Ok (Trigger found)) byte h = ap (λ (b : ℕ). Ok (Trigger b)) (same_number found byte h)
-says_so (Ok (One line)) byte h = cc
-says_so (Ok Flush) byte h = cc
-says_so (Err fault) byte h = cc
+says_so answer byte h = cc
 
 abbrev trigger_text : ℕ → List ℕ
 trigger_text byte = codes "125 trigger " ++ encode_lower (byte ∷ [])
 
 all_read : (plan : Plan) → below (λ byte. says_trigger (line2_of plan (trigger_text byte)) byte) 256 ≡ true
-unfolding line2_of trigger_said hexadecimal_named encode_with digits
+unfolding below line2_of trigger_said hexadecimal_named encode_with digits
 all_read plan = refl
 
 pub trigger_reads : (plan : Plan) (byte : ℕ) → byte < 256 → line2_of plan (trigger_text byte) ≡ Ok (Trigger byte)
@@ -80,9 +69,6 @@ said_parts words byte e = by (number_named 1 126 (word_of words 0)) (hexadecimal
 
 trigger_parts : (words : List (List ℕ)) (byte : ℕ) → is_trigger words ≡ true → trigger_said words ≡ Ok (Trigger byte) →
     AreTrigger words byte
-trigger_parts [] byte h e = cc
-trigger_parts (id ∷ []) byte h e = cc
-trigger_parts (id ∷ (word ∷ [])) byte h e = cc
 trigger_parts (id ∷ (word ∷ (code ∷ []))) byte h e =
     let parts = said_parts (id ∷ (word ∷ (code ∷ []))) byte e in
     record {
@@ -94,6 +80,7 @@ trigger_parts (id ∷ (word ∷ (code ∷ []))) byte h e =
     }
 trigger_parts (id ∷ (word ∷ (code ∷ (more ∷ words)))) byte h e =
     absurd (too_many (length words) (bytes_eq (codes "trigger") word) h)
+trigger_parts words byte h e = cc
 
 -- what a line of version 2 that is good can be
 no_one : (said : Result Line LineFault) (byte : ℕ) → as_one said ≡ Ok (Trigger byte) → ⊥
@@ -116,10 +103,6 @@ trigger_line plan line byte e =
     (are_words 0 (words_in line)) (is_trigger (words_in line)) (line_of_words plan (words_in line))
     (trigger_said (words_in line)) byte e
 
-small_byte : (code : List ℕ) (byte : ℕ) → hexadecimal_named 2 code ≡ Some byte → hex_digits 2 byte ≡ encode_lower (byte ∷ []) →
-    map lowered code ≡ encode_lower (byte ∷ [])
-small_byte code byte e f = hexadecimal_lowered 2 byte code e ∙ f
-
 decimal_is : (text : List ℕ) → joined (decimal 125 ∷ (codes "trigger" ∷ (text ∷ []))) ≡ codes "125 trigger " ++ text
 unfolding digits
 decimal_is text = refl
@@ -141,7 +124,7 @@ trigger_only plan line byte e =
     ∙ ap (λ (l : List ℕ). joined (l ∷ (codes "trigger" ∷ (map lowered w.code ∷ []))))
     (number_lowered 1 126 125 w.id (omega arith) w.numbered)
     ∙ ap (λ (l : List ℕ). joined (decimal 125 ∷ (codes "trigger" ∷ (l ∷ []))))
-    (small_byte w.code byte w.named (sym (byte_is byte small)))
+    (hexadecimal_lowered 2 byte w.code w.named ∙ sym (byte_is byte small))
     ∙ decimal_is (encode_lower (byte ∷ []))
 
 -- and the lines that are of version 1 too, and `flush`

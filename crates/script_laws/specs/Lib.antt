@@ -1,3 +1,4 @@
+pub mod Names
 pub mod Lowered
 pub mod Reading
 pub mod Puts

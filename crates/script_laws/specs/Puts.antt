@@ -1,9 +1,6 @@
 -- Lines that can be put: each can be said, of its source, and its STP items can be written in this order.
 use Rattle.std.specs.Prelude.{◌≡◌, List, [], ◌∷◌, ◌++◌, Ok}
-use Rattle.source_events.specs.declared.plan.Plan.{Plan}
-use Rattle.script_text.specs.declared.version_two.Line2.{Line2}
-use Rattle.script_text.specs.VersionTwo.{IsSaid2}
-use Rattle.script_rebuild.specs.Versions.{fitting}
+use Rattle.script_laws.specs.Names.{Plan, Line2, IsSaid2, fitting}
 
 -- a line that can be put after others
 pub record CanBePut (plan : Plan) (before : List Line2) (line : Line2) : Type 0 where

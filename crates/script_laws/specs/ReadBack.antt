@@ -1,32 +1,15 @@
 -- What the lines of a script write, read again: the report of the written capture.
-use Rattle.std.specs.Prelude.{◌≡◌, ◌≢◌, ◌≤◌, ℕ, List, [], ◌∷◌, map, flat_map, Bool, true, false, ◌==◌}
-use Rattle.std.specs.Prelude.{Option, None, Some}
-use Rattle.std.specs.List.{All, list_any}
-use Rattle.trace_values.specs.Placed.{Placed, placed}
-use Rattle.trace_values.specs.declared.reading_modes.FramesMode.TheVariants.{Aligned as FramesAligned}
+use Rattle.std.specs.Prelude.{◌≡◌, ◌≢◌, ◌≤◌, ℕ, List, [], ◌∷◌, map, flat_map, Bool, true, false, ◌==◌, Option, None}
+use Rattle.std.specs.Prelude.{Some, All}
+use Rattle.std.specs.List.{list_any}
+use Rattle.script_laws.specs.Names.{Placed, placed, Aligned as FramesAligned, source_list, PortReading, port_reading}
+use Rattle.script_laws.specs.Names.{cells_of, Event, What, Locked, Packet, Plan, SourceKind, part, sources_by, kind_of}
+use Rattle.script_laws.specs.Names.{stop_in, report, tail_of, Nothing, Of, Line2, One, Flush, Trigger as TriggerLine}
+use Rattle.script_laws.specs.Names.{given_packets, given_items, given_bytes, capture_of, RebuildPlan, are_apart, Turns}
 use Rattle.trace_values.specs.declared.reading_modes.PacketsMode.TheVariants.{Aligned as PacketsAligned}
-use Rattle.frame_grammar.specs.Reading.{source_list}
-use Rattle.deformatter.specs.PortReading.{PortReading, port_reading, cells_of}
-use Rattle.source_events.specs.declared.event.Event.{Event}
-use Rattle.source_events.specs.declared.event.What.{What}
-use Rattle.source_events.specs.declared.event.What.TheVariants.{Locked, Packet as PacketEvent, Raw, Trigger}
-use Rattle.source_events.specs.declared.packet.Packet.{Packet}
+use Rattle.source_events.specs.declared.event.What.TheVariants.{Packet as PacketEvent, Raw, Trigger}
 use Rattle.source_events.specs.declared.packet.Packet.TheVariants.{Itm as ItmPacket, Stp as StpPacket}
-use Rattle.source_events.specs.declared.plan.Plan.{Plan}
-use Rattle.source_events.specs.declared.plan.SourceKind.{SourceKind}
 use Rattle.source_events.specs.declared.plan.SourceKind.TheVariants.{Itm, Stp}
-use Rattle.source_events.specs.Merge.{part}
-use Rattle.source_events.specs.Plan.{sources_by, kind_of}
-use Rattle.source_events.specs.Report.{stop_in, report}
-use Rattle.source_events.specs.Tails.{tail_of}
-use Rattle.script_text.specs.declared.lines.Line.TheVariants.{Nothing, Of}
-use Rattle.script_text.specs.declared.version_two.Line2.{Line2}
-use Rattle.script_text.specs.declared.version_two.Line2.TheVariants.{One, Flush, Trigger as TriggerLine}
-use Rattle.script_rebuild.specs.Script.{given_packets, given_items, given_bytes}
-use Rattle.script_rebuild.specs.Rebuilt.{capture_of}
-use Rattle.script_rebuild.specs.declared.plan.RebuildPlan.{RebuildPlan}
-use Rattle.trace_funnel.specs.Order.{are_apart}
-use Rattle.trace_funnel.specs.declared.turns.Turns.{Turns}
 
 -- the plan that a rebuilt capture is read by: the same sources and order, and all from the first byte on
 abbrev pub aligned : Plan → Plan

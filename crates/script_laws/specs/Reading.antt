@@ -1,13 +1,7 @@
 -- How the lines of a script are read: each text after the lines before it, up to the first with a fault.
-use Rattle.std.specs.Prelude.{◌≡◌, ℕ, ◌+◌, ◌<◌, ◌≤◌, List, [], length, take, slice_index_or}
-use Rattle.std.specs.Prelude.{Option, None, Some, Result, Ok, Err}
-use Rattle.source_events.specs.declared.plan.Plan.{Plan}
-use Rattle.script_text.specs.declared.lines.Line.TheVariants.{Nothing}
-use Rattle.script_text.specs.declared.version_two.Line2.{Line2}
-use Rattle.script_text.specs.declared.version_two.Line2.TheVariants.{One}
-use Rattle.script_text.specs.declared.line_fault.LineFault.{LineFault}
-use Rattle.script_rebuild.specs.declared.version.Version.TheVariants.{Unknown}
-use Rattle.script_rebuild.specs.Versions.{says, version_then}
+use Rattle.std.specs.Prelude.{◌≡◌, ℕ, ◌+◌, ◌<◌, ◌≤◌, List, [], length, take, slice_index_or, Option, None, Some, Result}
+use Rattle.std.specs.Prelude.{Ok, Err}
+use Rattle.script_laws.specs.Names.{Plan, Nothing, Line2, One, LineFault, Unknown, says, version_then}
 
 -- the text, and the line, of this number, from 0 on
 abbrev pub text_at : List (List ℕ) → ℕ → List ℕ

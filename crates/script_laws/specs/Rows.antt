@@ -1,13 +1,6 @@
 -- Worked rows of scripts, in text.
 use Rattle.std.specs.Prelude.{ℕ, List, [], ◌∷◌, codes, Option}
-use Rattle.trace_values.specs.Placed.{placed}
-use Rattle.frame_writer.specs.Written.{written_segments}
-use Rattle.source_events.specs.declared.event.What.{What}
-use Rattle.source_events.specs.declared.packet.Packet.{Packet}
-use Rattle.source_events.specs.declared.plan.Plan.{Plan}
-use Rattle.script_text.specs.declared.line_fault.LineFault.{LineFault}
-use Rattle.script_rebuild.specs.Segments.{script_segments}
-use Rattle.script_rebuild.specs.Versions.{script_of}
+use Rattle.script_laws.specs.Names.{placed, written_segments, What, Packet, Plan, LineFault, script_segments, script_of}
 use Rattle.script_rebuild.specs.Rows.{script}
 use Rattle.script_laws.specs.ReadBack.{said_of}
 

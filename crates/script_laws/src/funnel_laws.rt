@@ -1,16 +1,9 @@
 //! Laws of scripts whose bytes pass through a funnel, over the definitions alone.
 
 ghost use Rattle.std.specs.Prelude.{◌≡◌, ◌≤◌, ◌++◌, ℕ, List, None, true};
-ghost use Rattle.frame_writer.specs.Written.{Tagged, joined};
-ghost use Rattle.port_formatter.specs.Passed.{to_funnel, all_passed};
-ghost use Rattle.source_events.specs.Plan.{is_sound};
-ghost use Rattle.trace_funnel.specs.Acts.{are_of};
-ghost use Rattle.trace_funnel.specs.Kept.{bytes_for};
-ghost use Rattle.trace_funnel.specs.Order.{are_apart};
-ghost use Rattle.trace_funnel.specs.declared.turns.Turns.{Turns};
-ghost use Rattle.script_rebuild.specs.Rebuilt.{routed_script, text, ending, capture_of};
-ghost use Rattle.script_rebuild.specs.Versions.{script_of};
-ghost use Rattle.script_rebuild.specs.declared.plan.RebuildPlan.{RebuildPlan};
+ghost use Rattle.script_laws.specs.Names.{Tagged, joined, to_funnel, all_passed, is_sound, are_of, bytes_for};
+ghost use Rattle.script_laws.specs.Names.{are_apart, Turns, routed_script, text, ending, capture_of, script_of};
+ghost use Rattle.script_laws.specs.Names.{RebuildPlan};
 ghost use Rattle.script_laws.specs.ReadBack.{rebuilt, IsFair, ReadsAsGiven};
 
 /// Of each source, what a funnel passes on of ended segments is what was in them, whole and in order.

@@ -2,15 +2,8 @@
 
 ghost use Rattle.std.specs.Prelude.{◌≡◌, ◌≤◌, ◌<◌, ◌↔◌, ◌∷◌, ◌++◌, [], ℕ, List, length, decimal, map, codes, Ok};
 ghost use Rattle.hex.specs.Hex.{encode_lower};
-ghost use Rattle.source_events.specs.declared.plan.Plan.{Plan};
-ghost use Rattle.source_events.specs.Plan.{kind_of};
-ghost use Rattle.script_text.specs.declared.items.Item.{Item};
-ghost use Rattle.script_text.specs.declared.lines.Line.{Line};
-ghost use Rattle.script_text.specs.declared.lines.Line.TheVariants.{Of};
-ghost use Rattle.script_text.specs.declared.version_two.Line2.TheVariants.{One, Trigger};
-ghost use Rattle.script_text.specs.Lines.{line_of, taken_by};
-ghost use Rattle.script_text.specs.VersionTwo.{line2_of};
-ghost use Rattle.script_text.specs.Said.{text_of, IsSayable};
+ghost use Rattle.script_laws.specs.Names.{Plan, kind_of, Item, Line, Of, One, Trigger, line_of, taken_by, line2_of};
+ghost use Rattle.script_laws.specs.Names.{text_of, IsSayable};
 ghost use Rattle.script_laws.specs.Lowered.{lowered};
 
 /// The text that the listing has of an item, after the decimal of an ID and a space, is a line: it says this item of

@@ -1,17 +1,11 @@
 //! Laws of scripts and of the captures that they are rebuilt to, over the definitions alone.
 
 ghost use Rattle.std.specs.Prelude.{◌≡◌, ℕ, List, [], true, Option};
-ghost use Rattle.source_events.specs.declared.plan.Plan.{Plan};
-ghost use Rattle.source_events.specs.Plan.{is_sound};
-ghost use Rattle.script_text.specs.declared.version_two.Line2.{Line2};
-ghost use Rattle.script_text.specs.declared.line_fault.LineFault.{LineFault};
-ghost use Rattle.script_rebuild.specs.Versions.{lines_in, script_of};
+ghost use Rattle.script_laws.specs.Names.{Plan, is_sound, Line2, LineFault, lines_in, script_of, routed_script};
+ghost use Rattle.script_laws.specs.Names.{are_placed, RebuildPlan};
 ghost use Rattle.script_laws.specs.Puts.{CanAllBePut};
 ghost use Rattle.script_laws.specs.Reading.{AreLinesOf, EndsWith};
 ghost use Rattle.script_laws.specs.ReadBack.{rebuilt, IsFair, ReadsAsGiven};
-ghost use Rattle.script_rebuild.specs.Rebuilt.{routed_script};
-ghost use Rattle.script_rebuild.specs.Routed.{are_placed};
-ghost use Rattle.script_rebuild.specs.declared.plan.RebuildPlan.{RebuildPlan};
 
 /// A script is read line by line up to its first fault: each line before it is what its text says after the lines
 /// before that. Where there is no fault, every text of the script has its line; or else the fault is that of the text

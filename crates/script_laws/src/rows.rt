@@ -1,15 +1,13 @@
 //! Worked rows of scripts, which the checker computes.
 
 ghost use Rattle.std.specs.Prelude.{◌≡◌, ◌∷◌, ◌++◌, [], codes, None, Some, false};
+ghost use Rattle.script_laws.specs.Names.{Eight, Natural, BadLine, Unfit};
 ghost use Rattle.frame_grammar.specs.Rows.{hex};
 ghost use Rattle.itm_grammar.specs.declared.packet.Size.TheVariants.{One};
 ghost use Rattle.itm_grammar.specs.declared.packet.ItmPacket.TheVariants.{Sync, Software};
-ghost use Rattle.stp_grammar.specs.declared.packet.Width.TheVariants.{Eight};
-ghost use Rattle.stp_grammar.specs.declared.item.Stamp.TheVariants.{Natural};
 ghost use Rattle.stp_grammar.specs.declared.item.StpItem.TheVariants.{Async, Version, Datum};
 ghost use Rattle.source_events.specs.declared.event.What.TheVariants.{Packet, Raw};
 ghost use Rattle.source_events.specs.declared.packet.Packet.TheVariants.{Itm, Stp};
-ghost use Rattle.script_text.specs.declared.line_fault.LineFault.TheVariants.{BadLine, Unfit};
 ghost use Rattle.script_text.specs.Rows.{both, place};
 ghost use Rattle.script_laws.specs.Rows.{several, written, read, fault_in};
 

@@ -1,15 +1,10 @@
 -- The segments of one more line, joined, and the items that are put.
 use Rattle.std.proofs.Common.{◌≡◌, ℕ, List, [], ◌∷◌, ◌++◌, refl, sym, ◌∙◌, ap, append_assoc, append-nil}
 use Rattle.std.proofs.lemmas.List.Concat.{flat_map-append}
-use Rattle.stp_grammar.specs.declared.packet.Order.{Order}
-use Rattle.stp_grammar.specs.declared.item.StpItem.{StpItem}
-use Rattle.stp_encoder.specs.Puts.{Put, items_in}
+use Rattle.script_rebuild.specs.Names.{Order, StpItem, Put, items_in, Tagged, joined, Line2, One, Flush, Trigger}
+use Rattle.script_rebuild.specs.Names.{Segments, with_bytes, now_ended}
 use Rattle.stp_encoder.proofs.Standing.{items_append, items_unmarked}
-use Rattle.frame_writer.specs.Written.{Tagged, joined}
-use Rattle.script_text.specs.declared.version_two.Line2.{Line2}
-use Rattle.script_text.specs.declared.version_two.Line2.TheVariants.{One, Flush, Trigger}
 use Rattle.script_rebuild.specs.Script.{items_by, given_items, puts_by, given_puts}
-use Rattle.port_formatter.specs.Segments.{Segments, with_bytes, now_ended}
 use Rattle.script_rebuild.specs.Segments.{line_bytes, after_line, segments_of}
 use Rattle.script_rebuild.specs.ScriptLaws.{segments_more}
 

@@ -1,34 +1,18 @@
 -- The answer to the putting of an item.
-use Rattle.std.proofs.Common.{◌≡◌, ℕ, List, [], ◌++◌, refl, sym, ◌∙◌, ap, subst, append-nil, Bool, true, false, Option, None, Result, Ok, Err}
-use Rattle.std.specs.Prelude.{◌==◌, if◌then◌else◌}
-use Rattle.std.specs.Result.{OnOk, OnErr}
-use Rattle.stp_grammar.specs.declared.item.StpItem.{StpItem}
+use Rattle.std.proofs.Common.{◌≡◌, ℕ, List, [], ◌++◌, refl, sym, ◌∙◌, ap, subst, append-nil, Bool, true, false, Option}
+use Rattle.std.proofs.Common.{None, Result, Ok, Err, ◌==◌, if◌then◌else◌}
+use Rattle.std.specs.Result.{OnOk}
+use Rattle.script_rebuild.specs.Names.{StpItem, is_unfit, items_in, unmarked, Puts, has_place, Turns}
+use Rattle.script_rebuild.specs.Names.{as_one, Item, Itm, Dwt, Stp, Raw, LineFault, Unfit, Unrouted, Of, Line2, One}
+use Rattle.stp_encoder.specs.Fitting.{version_after}
 use Rattle.stp_encoder.specs.Encoder as encoders
-use Rattle.stp_encoder.specs.Fitting.{version_after, is_unfit}
-use Rattle.stp_encoder.specs.Puts.{items_in, unmarked}
-use Rattle.port_formatter.specs.Formatter.{Puts}
-use Rattle.port_formatter.specs.Port.{has_place}
-use Rattle.trace_funnel.specs.declared.turns.Turns.{Turns}
 use Rattle.script_text.specs.Lines.{◌>>=◌}
-use Rattle.script_text.specs.VersionTwo.{as_one}
-use Rattle.script_text.specs.declared.items.Item.{Item}
-use Rattle.script_text.specs.declared.items.Item.TheVariants.{Itm, Dwt, Stp, Raw}
-use Rattle.script_text.specs.declared.line_fault.LineFault.{LineFault}
-use Rattle.script_text.specs.declared.line_fault.LineFault.TheVariants.{Unfit, Unrouted}
-use Rattle.script_text.specs.declared.lines.Line.TheVariants.{Of}
-use Rattle.script_text.specs.declared.version_two.Line2.{Line2}
-use Rattle.script_text.specs.declared.version_two.Line2.TheVariants.{One}
 use Rattle.script_rebuild.specs.Encoding.{AllStand, NextItem, Left, Answers, given_after, line_for}
 use Rattle.script_rebuild.specs.Routed.{placed, line_if}
 use Rattle.script_rebuild.specs.Script.{items_of, item_bytes, tagged}
 use Rattle.script_rebuild.specs.Versions.{fitting_item}
 use Rattle.script_rebuild.specs.declared.encoders.SourceEncoder.{SourceEncoder}
 use Rattle.script_rebuild.proofs.Placing.{item_placed, placed_by}
-
--- what holds at any answer
-pub at_fault : {T : Type 0} (r : Result T LineFault) (P : Type 0) → P → OnErr r P
-at_fault (Ok v) P h = tt
-at_fault (Err fault) P h = h
 
 -- a line that fits, where nothing is said of places, and then of its place
 pub fault_stays : (read : Result Line2 LineFault) (funnel : Option Turns) (fault : LineFault) →

@@ -1,22 +1,21 @@
 -- The encoders of system traces, of which one writes an item.
-use Rattle.std.proofs.Common.{◌≡◌, ◌≢◌, ℕ, zero, suc, ◌+◌, ◌<◌, ◌≤◌, ◌-◌, add-zero, List, [], ◌∷◌, ◌++◌, refl, sym, ap, ◌∙◌, subst, arith, Bool, true, false, None, Some}
-use Rattle.std.proofs.Common.{length, get_or, set, take, append-nil, ◌==◌, ◌||◌, if◌then◌else◌, cond, nat_lt, inl, inr}
-use Rattle.std.specs.List.{All, list_any, position, position_or_len, refill, filter, range_with_len}
+use Rattle.std.proofs.Common.{◌≡◌, ◌≢◌, ℕ, zero, suc, ◌+◌, ◌<◌, ◌≤◌, ◌-◌, add-zero, List, [], ◌∷◌, ◌++◌, refl, sym, ap}
+use Rattle.std.proofs.Common.{◌∙◌, subst, arith, Bool, true, false, None, Some, length, get_or, set, take, append-nil}
+use Rattle.std.proofs.Common.{◌==◌, ◌||◌, if◌then◌else◌, cond, nat_lt, inl, inr, All, position, filter}
+use Rattle.std.specs.List.{list_any, position_or_len, refill, range_with_len}
 use Rattle.std.proofs.Math.Seq.{map-set_same}
 use Rattle.std.proofs.lemmas.Bool.Decides.{nat_tests}
 use Rattle.std.proofs.lemmas.Bool.{cases_lt}
-use Rattle.std.proofs.lemmas.List.{get_or-set_same, get_or-set_other, get_or_default, length-map, length-set, length_push, map-append, take_all, drop_all}
+use Rattle.std.proofs.lemmas.List.{get_or-set_same, get_or-set_other, get_or_default, length-map, length-set}
+use Rattle.std.proofs.lemmas.List.{length_push, map-append, take_all, drop_all}
 use Rattle.std.proofs.lemmas.List.Elements.{All-push, filter-append}
 use Rattle.std.proofs.lemmas.List.Folds.{list_any_none}
 use Rattle.std.proofs.lemmas.List.Quantifiers.{position-Some}
 use Rattle.std.proofs.lemmas.List.Sums.{fails_before_first}
-use Rattle.stp_grammar.specs.declared.packet.Order.{Order}
-use Rattle.stp_grammar.specs.declared.item.StpItem.{StpItem}
-use Rattle.stp_encoder.specs.Puts.{Put, unmarked}
+use Rattle.script_rebuild.specs.Names.{Order, StpItem, Put, unmarked, Stp}
 use Rattle.stp_encoder.specs.Puts.{Of as PutOf}
 use Rattle.stp_encoder.specs.Encoder as encoders
 use Rattle.stp_encoder.specs.declared.encoder.StpEncoder.{StpEncoder}
-use Rattle.script_text.specs.declared.items.Item.TheVariants.{Stp}
 use Rattle.script_rebuild.specs.declared.encoders.SourceEncoder.{SourceEncoder}
 use Rattle.script_rebuild.specs.Script.{in_order}
 use Rattle.script_rebuild.specs.Encoding.{ids_in, AllStand, NextItem, AreReady, given_after}
@@ -56,19 +55,22 @@ pub ids_kept : (slots : List SourceEncoder) (i : ℕ) (d : SourceEncoder) (new :
     ids_in (set slots i (record { id = (get_or slots i d).id; encoder = new })) ≡ ids_in slots
 ids_kept slots i d new = map-set_same (λ (s : SourceEncoder). s.id) slots i (record { id = (get_or slots i d).id; encoder = new }) d refl
 
--- the one that is found is of the source, and stands for what it was given
-pub found_of : (slots : List SourceEncoder) (id i : ℕ) (d : SourceEncoder) → position (λ e. e.id == id) slots ≡ Some i →
-    (i < length slots) × ((get_or slots i d).id ≡ id)
-found_of slots id i d e =
-    let k = position-Some (λ e. e.id == id) slots i d e in
-    (k.0, let at : ((get_or slots i d).id == id) ≡ true = k.1 in grind (arith, nat_tests))
+-- the one that is found is of the source, and stands for what that was given
+pub record IsFound (next : NextItem) (slots : List SourceEncoder) (i : ℕ) (d : SourceEncoder) : Type 0 where
+  pub within : i < length slots
+  pub at : (get_or slots i d).id ≡ next.id
+  pub order : encoders.order_of (get_or slots i d).encoder ≡ next.order
+  pub stands : encoders.Stands (get_or slots i d).encoder (next.given next.id)
 
-pub stands_of : (next : NextItem) (slots : List SourceEncoder) (i : ℕ) (d : SourceEncoder) → AreReady next slots → i < length slots →
-    (get_or slots i d).id ≡ next.id →
-    (encoders.order_of (get_or slots i d).encoder ≡ next.order) × encoders.Stands (get_or slots i d).encoder (next.given next.id)
-stands_of next slots i d ready lt at =
-    let one = ready.stand i d lt in
-    (one.0, subst (λ (n : ℕ). encoders.Stands (get_or slots i d).encoder (next.given n)) at one.1)
+pub found_in : (next : NextItem) (slots : List SourceEncoder) (i : ℕ) (d : SourceEncoder) →
+    position (λ e. e.id == next.id) slots ≡ Some i → AreReady next slots → IsFound next slots i d
+found_in next slots i d e ready =
+    let k = position-Some (λ e. e.id == next.id) slots i d e in
+    let is : ((get_or slots i d).id == next.id) ≡ true = k.1 in
+    let at : (get_or slots i d).id ≡ next.id = grind (arith, nat_tests) in
+    let one = ready.stand i d k.0 in
+    let stands = subst (λ (n : ℕ). encoders.Stands (get_or slots i d).encoder (next.given n)) at one.1 in
+    record { within = k.0; at = at; order = one.0; stands = stands }
 
 -- the encoder of the source stands for its item too, and the others for what they stood for
 module _ (order : Order) (slots : List SourceEncoder) (given : ℕ → List Put) (id i : ℕ) (item : StpItem) (d : SourceEncoder) (new : StpEncoder) where

@@ -1,17 +1,11 @@
 -- The bytes of the nibbles that are kept, put one after the other, and the end of the segment behind them.
-use Rattle.std.proofs.Common.{◌≡◌, refl, ℕ, ◌+◌, ◌*◌, ◌≤◌, ◌<◌, List, [], ◌∷◌, ◌++◌, sym, ap, ◌∙◌, subst, length, get_or, take}
-use Rattle.std.proofs.Common.{append_assoc, append-nil, arith}
+use Rattle.std.proofs.Common.{◌≡◌, refl, ℕ, ◌+◌, ◌*◌, ◌≤◌, ◌<◌, List, [], ◌∷◌, ◌++◌, sym, ap, ◌∙◌, subst, length}
+use Rattle.std.proofs.Common.{get_or, take, append_assoc, append-nil, arith}
 use Rattle.std.proofs.lemmas.List.{take_all, take_more, map-append}
 use Rattle.std.proofs.lemmas.List.Concat.{flat_map-append}
 use Rattle.std.proofs.lemmas.List.Elements.{All-nil}
-use Rattle.stp_grammar.specs.declared.packet.Order.{Order}
-use Rattle.stp_encoder.specs.Puts.{Put}
-use Rattle.stp_encoder.specs.Bytes.{end_bytes}
-use Rattle.frame_writer.specs.Written.{Tagged}
-use Rattle.port_formatter.specs.Formatter.{Puts, Stands, HasRoom, count_of, kept_by, turns_of}
-use Rattle.port_formatter.specs.Port.{sure_of}
-use Rattle.port_formatter.specs.Segments.{Segments, with_bytes}
-use Rattle.port_formatter.specs.declared.formatter.Formatter.{Formatter}
+use Rattle.script_rebuild.specs.Names.{Order, Put, end_bytes, Tagged, Puts, sure_of, Segments, with_bytes, Formatter}
+use Rattle.port_formatter.specs.Formatter.{Stands, HasRoom, count_of, kept_by, turns_of}
 use Rattle.script_rebuild.specs.declared.encoders.SourceEncoder.{SourceEncoder}
 use Rattle.script_rebuild.specs.Script.{tagged, ends_with}
 use Rattle.script_rebuild.specs.Encoding.{ids_in, StandsFor, AllStand, KeepsPlaced, flushed}

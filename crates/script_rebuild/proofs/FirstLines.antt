@@ -1,11 +1,10 @@
 -- The first line of a piece, where it says a packet.
-use Rattle.std.proofs.Common.{◌≡◌, ℕ, ◌+◌, List, [], ◌∷◌, ◌++◌, sym, ◌∙◌, ap, subst, Bool, true, false, All, length, take, arith}
-use Rattle.std.specs.Prelude.{◌==◌, ◌&&◌, nat_le}
+use Rattle.std.proofs.Common.{◌≡◌, ℕ, ◌+◌, List, [], ◌∷◌, ◌++◌, sym, ◌∙◌, ap, subst, Bool, true, false, All, length}
+use Rattle.std.proofs.Common.{take, arith, ◌==◌, ◌&&◌, nat_le}
 use Rattle.std.proofs.Math.Seq.{take-append_seam, take-append-add}
 use Rattle.std.proofs.lemmas.List.Elements.{All-cons, All-nil}
 use Rattle.std.proofs.lemmas.Bool.Decides.{nat_tests}
-use Rattle.script_text.specs.declared.quick.PacketLine.{PacketLine}
-use Rattle.script_text.specs.Quick.{IsFirstLine, IsPacketOf}
+use Rattle.script_rebuild.specs.Names.{PacketLine, IsFirstLine, IsPacketOf}
 use Rattle.script_text.specs.Words.{are_printable}
 
 no_line_feed : (b : ℕ) (rest : Bool) → ((nat_le 32 b && nat_le b 126) && rest) ≡ true → (b == 10) ≡ false

@@ -1,9 +1,9 @@
 -- IDs in increasing order.
-use Rattle.std.proofs.Common.{◌≡◌, ℕ, zero, suc, ◌+◌, ◌<◌, ◌≤◌, List, [], ◌∷◌, refl, sym, ap, ◌∙◌, arith, Bool, true, false, length, get_or, ◌||◌}
-use Rattle.std.specs.Prelude.{◌==◌, ◌&&◌, nat_le, not, if◌then◌else◌}
-use Rattle.std.specs.List.{filter, list_any, range_with_len}
+use Rattle.std.proofs.Common.{◌≡◌, ℕ, zero, suc, ◌+◌, ◌<◌, ◌≤◌, List, [], ◌∷◌, refl, sym, ap, ◌∙◌, arith, Bool, true}
+use Rattle.std.proofs.Common.{false, length, get_or, ◌||◌, ◌==◌, ◌&&◌, nat_le, not, if◌then◌else◌, filter}
+use Rattle.std.specs.List.{list_any, range_with_len}
 use Rattle.std.proofs.lemmas.Bool.Decides.{nat_tests}
-use Rattle.source_events.specs.Plan.{are_sound}
+use Rattle.script_rebuild.specs.Names.{are_sound}
 use Rattle.script_rebuild.specs.Script.{in_order}
 use Rattle.script_rebuild.specs.Encoding.{IsRising}
 
@@ -142,7 +142,7 @@ pub in_order_among : (ids : List ℕ) (x : ℕ) → 1 ≤ x → x ≤ 126 → am
 unfolding in_order
 in_order_among ids x low high = those_kept (among ids) 1 126 x low (omega (arith, high))
 
-sound_within : (ids : List ℕ) → are_sound ids ≡ true → (x : ℕ) → among ids x ≡ true → (1 ≤ x) × (x ≤ 111)
+pub sound_within : (ids : List ℕ) → are_sound ids ≡ true → (x : ℕ) → among ids x ≡ true → (1 ≤ x) × (x ≤ 111)
 sound_within [] h x e = cc
 sound_within (y ∷ ids) h x e =
     by (nat_le 1 y) (nat_le y 111) (not (among ids y)) refl refl h (y == x) refl e (λ sound k. sound_within ids sound x k)

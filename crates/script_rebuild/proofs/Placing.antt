@@ -1,19 +1,11 @@
 -- Lines with a place.
-use Rattle.std.proofs.Common.{◌≡◌, ℕ, List, [], ◌∷◌, ◌++◌, refl, sym, ◌∙◌, ap, subst, Bool, true, false, Option, None, Some, Result, Ok, Err, arith}
-use Rattle.std.specs.Prelude.{◌==◌, ◌&&◌, if◌then◌else◌, option_to_list}
+use Rattle.std.proofs.Common.{◌≡◌, ℕ, List, [], ◌∷◌, ◌++◌, refl, sym, ◌∙◌, ap, subst, Bool, true, false, Option, None}
+use Rattle.std.proofs.Common.{Some, Result, Ok, Err, arith, ◌==◌, ◌&&◌, if◌then◌else◌, option_to_list}
 use Rattle.std.specs.List.{list_any}
 use Rattle.std.proofs.lemmas.Bool.Decides.{nat_tests}
-use Rattle.stp_grammar.specs.declared.packet.Order.{Order}
-use Rattle.stp_encoder.specs.Bytes.{joined, filled, odd_nibble, nibbles_after, nibbles_for}
-use Rattle.stp_encoder.specs.Puts.{Put}
-use Rattle.port_formatter.specs.Port.{has_place}
-use Rattle.trace_funnel.specs.declared.turns.Turns.{Turns}
-use Rattle.script_text.specs.declared.items.Item.{Item}
-use Rattle.script_text.specs.declared.line_fault.LineFault.{LineFault}
-use Rattle.script_text.specs.declared.line_fault.LineFault.TheVariants.{Unrouted}
-use Rattle.script_text.specs.declared.lines.Line.TheVariants.{Nothing, Of}
-use Rattle.script_text.specs.declared.version_two.Line2.{Line2}
-use Rattle.script_text.specs.declared.version_two.Line2.TheVariants.{One, Flush, Trigger}
+use Rattle.script_rebuild.specs.Names.{Order, odd_nibble, nibbles_after, nibbles_for, Put, has_place, Turns, Item}
+use Rattle.script_rebuild.specs.Names.{LineFault, Unrouted, Nothing, Of, Line2, One, Flush, Trigger}
+use Rattle.stp_encoder.specs.Bytes.{joined, filled}
 use Rattle.script_rebuild.specs.Encoding.{KeepsPlaced}
 use Rattle.script_rebuild.specs.Routed.{is_routed, are_routed, is_placed, are_placed, placed}
 use Rattle.script_rebuild.specs.Script.{puts_by, given_puts}

@@ -1,7 +1,7 @@
 -- How much room a formatter has.
 use Rattle.std.proofs.Common.{◌≤◌, ℕ, arith}
+use Rattle.script_rebuild.specs.Names.{Formatter}
 use Rattle.port_formatter.specs.Formatter.{HasRoom}
-use Rattle.port_formatter.specs.declared.formatter.Formatter.{Formatter}
 use Rattle.port_formatter.specs.declared.formatter.Formatter.TheVariants.{Straight, Funnelled}
 
 -- room for more is room for less

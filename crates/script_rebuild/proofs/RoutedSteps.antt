@@ -1,20 +1,17 @@
 -- One more line of a script, where only lines with a place go to the port.
-use Rattle.std.proofs.Common.{◌≡◌, ◌≢◌, ℕ, ◌+◌, ◌≤◌, List, [], ◌∷◌, ◌++◌, refl, sym, ◌∙◌, ap, Bool, true, false, cond, Option, None, Some, Result, Ok, Err, append-nil, append_assoc, length, All}
-use Rattle.std.specs.Prelude.{◌==◌, ◌&&◌}
-use Rattle.trace_funnel.specs.declared.turns.Turns.{Turns}
-use Rattle.script_text.specs.declared.version_two.Line2.{Line2}
-use Rattle.script_text.specs.declared.line_fault.LineFault.{LineFault}
-use Rattle.script_text.specs.declared.line_fault.LineFault.TheVariants.{LongLine, Unrouted}
+use Rattle.std.proofs.Common.{◌≡◌, ◌≢◌, ℕ, ◌+◌, ◌≤◌, List, [], ◌∷◌, ◌++◌, refl, sym, ◌∙◌, ap, Bool, true, false, cond}
+use Rattle.std.proofs.Common.{Option, None, Some, Result, Ok, Err, append-nil, append_assoc, length, All, ◌==◌, ◌&&◌}
+use Rattle.script_rebuild.specs.Names.{Turns, Line2, LineFault, LongLine, Unrouted}
 use Rattle.script_text.specs.Lines.{◌>>=◌}
 use Rattle.script_rebuild.specs.declared.plan.RebuildPlan.{RebuildPlan}
 use Rattle.script_rebuild.specs.PutLine.{says_placed}
 use Rattle.script_rebuild.specs.Rebuilt.{open_line, read_so_far, routed_so_far, routed_script}
 use Rattle.script_rebuild.specs.Routed.{is_routed, are_routed, routed_on, routed_by, placed}
-use Rattle.script_rebuild.specs.RoutedLaws.{all_placed, all_routed}
+use Rattle.script_rebuild.specs.RoutedLaws.{all_placed, on_from, routed_append}
 use Rattle.script_rebuild.specs.Versions.{Reading, says, script_of}
 use Rattle.script_rebuild.proofs.Steps.{answered, version_now, front_read, fed_read, end_read, long_read}
 
--- lines that have a place, and then one that may have none
+-- lines that have a place
 module _ (order : List ℕ) (fault : Option (ℕ × LineFault)) where
   abbrev unrouted : List Line2 → Reading
   unrouted before = record { lines = before; fault = Some (length before + 1, Unrouted) }
@@ -37,37 +34,15 @@ module _ (order : List ℕ) (fault : Option (ℕ × LineFault)) where
       by true h more = more h ∙ ap sound (append_assoc before (line ∷ []) lines)
       by false h more = absurd (let no = h in cc)
 
-  last_routed : (before lines : List Line2) (last : Line2) → are_routed order lines ≡ true →
-      routed_on order fault before (lines ++ last ∷ [])
-      ≡ cond (is_routed order last) (sound (before ++ (lines ++ last ∷ []))) (unrouted (before ++ lines))
-  last_routed before [] last all =
-      ap (λ (l : List Line2). cond (is_routed order last) (sound (before ++ last ∷ [])) (unrouted l)) (sym (append-nil before))
-  last_routed before (line ∷ lines) last all =
-      by (is_routed order line) all (λ h. last_routed (before ++ line ∷ []) lines last h)
-    where
-      next : List Line2
-      next = before ++ line ∷ []
-
-      by : (v : Bool) → (v && are_routed order lines) ≡ true →
-          (are_routed order lines ≡ true → routed_on order fault next (lines ++ last ∷ [])
-          ≡ cond (is_routed order last) (sound (next ++ (lines ++ last ∷ []))) (unrouted (next ++ lines))) →
-          cond v (routed_on order fault next (lines ++ last ∷ [])) (unrouted before)
-          ≡ cond (is_routed order last) (sound (before ++ line ∷ (lines ++ last ∷ []))) (unrouted (before ++ line ∷ lines))
-      by true h more =
-          more h
-          ∙ ap (λ (l : List Line2). cond (is_routed order last) (sound l) (unrouted (next ++ lines)))
-          (append_assoc before (line ∷ []) (lines ++ last ∷ []))
-          ∙ ap (λ (l : List Line2). cond (is_routed order last) (sound (before ++ line ∷ (lines ++ last ∷ []))) (unrouted l))
-          (append_assoc before (line ∷ []) lines)
-      by false h more = absurd (let no = h in cc)
-
 -- what is read with one line after those that ended
 answered_on : (turns : Turns) (r : Reading) (answer : Result Line2 LineFault) → (routed_by (Some turns) r).fault ≡ None →
     routed_by (Some turns) (answered r.lines answer) ≡ answered r.lines (answer >>= placed (Some turns))
 answered_on turns r (Err fault) none =
-    keeps_all turns.order (Some (length r.lines + 1, fault)) [] r.lines (all_routed turns.order r.fault [] r.lines none).places
+    keeps_all turns.order (Some (length r.lines + 1, fault)) [] r.lines (all_placed (Some turns) r none).places
 answered_on turns r (Ok line) none =
-    last_routed turns.order None [] r.lines line (all_routed turns.order r.fault [] r.lines none).places
+    routed_append turns.order None [] r.lines (line ∷ [])
+    ∙ ap (λ (x : Reading). on_from turns.order None x (line ∷ []) x.fault)
+    (keeps_all turns.order None [] r.lines (all_placed (Some turns) r none).places)
     ∙ by (is_routed turns.order line)
   where
     by : (v : Bool) → cond v (answered r.lines (Ok line)) (answered r.lines (Err Unrouted))

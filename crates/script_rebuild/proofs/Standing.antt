@@ -1,24 +1,12 @@
 -- A writer of lines, after one more line.
-use Rattle.std.proofs.Common.{◌≡◌, ℕ, List, [], ◌∷◌, ◌++◌, refl, sym, ◌∙◌, ap, subst, append-nil, append_assoc, Result, Ok, Err, Option, true}
-use Rattle.std.specs.Prelude.{slice_index_or}
-use Rattle.stp_grammar.specs.declared.packet.Order.{Order}
-use Rattle.stp_grammar.specs.declared.item.StpItem.{StpItem}
-use Rattle.stp_encoder.specs.Puts.{Put}
+use Rattle.std.proofs.Common.{◌≡◌, ℕ, List, [], ◌∷◌, ◌++◌, refl, sym, ◌∙◌, ap, subst, append-nil, append_assoc, Result}
+use Rattle.std.proofs.Common.{Ok, Err, Option, true, slice_index_or}
+use Rattle.script_rebuild.specs.Names.{Order, StpItem, Put, Tagged, Port, sure_of, written, Segments, with_bytes}
+use Rattle.script_rebuild.specs.Names.{Formatter, Turns, Item, LineFault, Line, Nothing, Of, Line2, One, Flush, Trigger}
+use Rattle.script_rebuild.specs.Names.{as_one}
 use Rattle.stp_encoder.specs.Encoder as encoders
-use Rattle.frame_writer.specs.Written.{Tagged}
 use Rattle.port_formatter.specs.Formatter as formatters
-use Rattle.port_formatter.specs.Port.{Port, sure_of, written}
-use Rattle.port_formatter.specs.Segments.{Segments, with_bytes}
-use Rattle.port_formatter.specs.declared.formatter.Formatter.{Formatter}
-use Rattle.trace_funnel.specs.declared.turns.Turns.{Turns}
-use Rattle.script_text.specs.declared.items.Item.{Item}
-use Rattle.script_text.specs.declared.line_fault.LineFault.{LineFault}
-use Rattle.script_text.specs.declared.lines.Line.{Line}
-use Rattle.script_text.specs.declared.lines.Line.TheVariants.{Nothing, Of}
-use Rattle.script_text.specs.declared.version_two.Line2.{Line2}
-use Rattle.script_text.specs.declared.version_two.Line2.TheVariants.{One, Flush, Trigger}
 use Rattle.script_text.specs.Lines.{◌>>=◌}
-use Rattle.script_text.specs.VersionTwo.{as_one}
 use Rattle.script_rebuild.specs.declared.encoders.SourceEncoder.{SourceEncoder}
 use Rattle.script_rebuild.specs.declared.writer.LineWriter.{LineWriter}
 use Rattle.script_rebuild.specs.Script.{given_puts, tagged, ends_with}
@@ -208,18 +196,3 @@ module _ (w : LineWriter) (port : Port) (lines : List Line2) (s : Stands w port 
 pub flush_after : (old new : LineWriter) (port : Port) (lines : List Line2) → Flushes old new port lines →
     PutsAfter old new port lines Flush (Ok tt)
 flush_after old new port lines f = record { told = placed_by (turns_of old) Flush true (flush_placed (turns_of old)); adds = f.adds }
-
--- a writer whose formatter alone changed, and stands for the same
-pub stands_moved : (w new : LineWriter) (port : Port) (lines : List Line2) → new.order ≡ w.order → new.encoders ≡ w.encoders →
-    turns_of new ≡ turns_of w →
-    ((t : Segments) → formatters.Stands w.formatter port t → formatters.Stands new.formatter port t) →
-    Stands w port lines → Stands new port lines
-stands_moved w new port lines order same turns moved s = record {
-  items = subst (λ (o : Order). AllStand o new.encoders.items (λ x. given_puts x lines)) (sym order)
-      (subst (λ e. AllStand w.order e.items (λ x. given_puts x lines)) (sym same) s.items);
-  rising = subst (λ e. IsRising (ids_in e.items)) (sym same) s.rising;
-  places = subst (λ (f : Option Turns). are_placed f lines ≡ true) (sym turns) s.places;
-  formatter = subst (λ (o : Order). formatters.Stands new.formatter port (segments_of o (ids_in new.encoders.items) lines)) (sym order)
-      (subst (λ e. formatters.Stands new.formatter port (segments_of w.order (ids_in e.items) lines)) (sym same)
-      (moved (so_far w lines) s.formatter));
-}

@@ -1,12 +1,9 @@
 -- One more byte of a script.
-use Rattle.std.proofs.Common.{◌≡◌, ◌≢◌, ℕ, ◌+◌, ◌≤◌, List, [], ◌∷◌, ◌++◌, refl, sym, ◌∙◌, ap, true, false, None, Some, Result, Ok, Err, append-nil, length, length-append, arith, All}
-use Rattle.std.specs.Prelude.{nat_lt, ◌==◌, if◌then◌else◌}
+use Rattle.std.proofs.Common.{◌≡◌, ◌≢◌, ℕ, ◌+◌, ◌≤◌, List, [], ◌∷◌, ◌++◌, refl, sym, ◌∙◌, ap, true, false, None, Some}
+use Rattle.std.proofs.Common.{Result, Ok, Err, append-nil, length, length-append, arith, All, nat_lt, ◌==◌}
+use Rattle.std.proofs.Common.{if◌then◌else◌}
 use Rattle.std.proofs.lemmas.Bool.Decides.{nat_tests}
-use Rattle.source_events.specs.declared.plan.Plan.{Plan}
-use Rattle.frame_writer.specs.Fronts.{all_but_last}
-use Rattle.script_text.specs.declared.version_two.Line2.{Line2}
-use Rattle.script_text.specs.declared.line_fault.LineFault.{LineFault}
-use Rattle.script_text.specs.declared.line_fault.LineFault.TheVariants.{LongLine}
+use Rattle.script_rebuild.specs.Names.{Plan, all_but_last, Line2, LineFault, LongLine}
 use Rattle.script_rebuild.specs.declared.version.Version.{Version}
 use Rattle.script_rebuild.specs.declared.version.Version.TheVariants.{Unknown}
 use Rattle.script_rebuild.specs.Versions.{lines_in, Reading, read_texts, says, version_after, version_then, script_of}

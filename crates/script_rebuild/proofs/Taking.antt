@@ -1,19 +1,13 @@
 -- What the action takes.
-use Rattle.std.proofs.Common.{◌≡◌, ℕ, ◌+◌, ◌≤◌, List, [], ◌∷◌, ◌++◌, refl, sym, ◌∙◌, ap, subst, Bool, true, false, Option, Some, None, Result, Ok, Err, append-nil, append_assoc, length, length-append, arith, All, drop}
-use Rattle.std.specs.Prelude.{◌==◌, is_some, option_map}
-use Rattle.std.proofs.Common.{◌⊎◌, inl, inr, ◌-◌}
+use Rattle.std.proofs.Common.{◌≡◌, ℕ, ◌+◌, ◌≤◌, List, [], ◌∷◌, ◌++◌, refl, sym, ◌∙◌, ap, subst, Bool, true, false}
+use Rattle.std.proofs.Common.{Option, Some, None, Result, Ok, Err, append-nil, append_assoc, length, length-append}
+use Rattle.std.proofs.Common.{arith, All, drop, ◌==◌, is_some, option_map, ◌⊎◌, inl, inr, ◌-◌}
+use Rattle.script_rebuild.specs.Names.{Order, Plan, Turns, Paid, owing, with_debt, HasTaken, GREATEST_CAPTURE, written}
+use Rattle.script_rebuild.specs.Names.{Line2, LineFault}
 use Rattle.trace_stream.proofs.Owing.{with_last}
 use Rattle.trace_stream.specs.Owed.{last_of}
-use Rattle.stp_grammar.specs.declared.packet.Order.{Order}
-use Rattle.source_events.specs.declared.plan.Plan.{Plan}
-use Rattle.trace_funnel.specs.declared.turns.Turns.{Turns}
 use Rattle.script_rebuild.specs.Routed.{routed_by}
-use Rattle.trace_stream.specs.Debt.{Paid, owing, with_debt}
-use Rattle.trace_stream.specs.Taken.{HasTaken, FaultAfter}
-use Rattle.trace_stream.specs.declared.limits.TheConstants.{GREATEST_CAPTURE}
-use Rattle.port_formatter.specs.Port.{written}
-use Rattle.script_text.specs.declared.version_two.Line2.{Line2}
-use Rattle.script_text.specs.declared.line_fault.LineFault.{LineFault}
+use Rattle.trace_stream.specs.Taken.{FaultAfter}
 use Rattle.script_rebuild.specs.declared.version.Version.{Version}
 use Rattle.script_rebuild.specs.Script.{in_order}
 use Rattle.script_rebuild.specs.Segments.{sure_lines, segments_with_ends}
@@ -23,8 +17,8 @@ use Rattle.script_rebuild.specs.declared.writer.LineWriter.{LineWriter}
 use Rattle.script_rebuild.specs.declared.plan.RebuildPlan.{RebuildPlan}
 use Rattle.script_rebuild.specs.declared.plan.ScriptFault.{ScriptFault}
 use Rattle.script_rebuild.specs.declared.rebuild.Rebuild.{Rebuild}
-use Rattle.script_rebuild.specs.Rebuilt.{IsFaulty, open_line, port_of, read_so_far, routed_so_far, routed_script, text, ending, left_of}
-use Rattle.script_rebuild.specs.Rebuilt.{capture_of, script_capture, rebuild_meaning}
+use Rattle.script_rebuild.specs.Rebuilt.{IsFaulty, open_line, port_of, read_so_far, routed_so_far, routed_script, text}
+use Rattle.script_rebuild.specs.Rebuilt.{ending, left_of, capture_of, script_capture, rebuild_meaning}
 use Rattle.script_rebuild.specs.PutLine.{PutsLine, Flushes, IsFor, says_placed}
 use Rattle.script_rebuild.specs.Rebuilder.{told, debt_with, debt_of, Reads, HasEnded, Stands, TakesByte, Feeds}
 use Rattle.script_rebuild.specs.RoutedLaws.{end_settled}
@@ -176,13 +170,9 @@ some_of (Some f) o e = ap (λ (x : Option (ℕ × LineFault)). is_some x) (sym e
 pub is_faulty : (r : Rebuild) (seen : List ℕ) → Reads r seen → is_some (routed_so_far r.plan seen).fault ≡ is_some r.fault
 is_faulty r seen s = some_of r.fault (routed_so_far r.plan seen).fault s.fault
 
-pub fault_none : (f : Option ScriptFault) → is_some f ≡ false → f ≡ None
-fault_none None h = refl
-fault_none (Some f) h = cc
-
-pub owed_none : (o : Option ℕ) → is_some o ≡ false → o ≡ None
-owed_none None h = refl
-owed_none (Some owed) h = cc
+pub none_if : {A : Type 0} (o : Option A) → is_some o ≡ false → o ≡ None
+none_if None h = refl
+none_if (Some x) h = cc
 
 -- a reader of this plan tells by its fault whether these bytes have one
 faulty_is : (r : Rebuild) (p : RebuildPlan) (seen : List ℕ) → r.plan ≡ p → Reads r seen → is_some (routed_so_far p seen).fault ≡ is_some r.fault
@@ -390,16 +380,13 @@ pub line_taken : (old new : Rebuild) (line before after : List ℕ) (is_faulty :
 line_taken old new line before after is_faulty same reading e takes = record {
   same = same;
   reading = reading;
-  live = λ f. fault_none new.fault (sym e ∙ f);
+  live = λ f. none_if new.fault (sym e ∙ f);
   fed = λ seen s.
       let t = takes seen s in
       byte_taken t.mid new old.plan seen line (line ++ 10 ∷ []) 10 before after t.same (same ∙ sym t.same) t.live refl t.reads t.read t.takes is_faulty e;
 }
 
 -- == Either way
-
-pub reads_there : (r : Rebuild) (seen : List ℕ) → r.owed ≡ None → Stands r seen → Reads r seen
-reads_there r seen reading s = s.reads reading
 
 pub stands_reading : (r : Rebuild) (seen : List ℕ) → r.owed ≡ None → Reads r seen → Stands r seen
 stands_reading r seen reading s = record {

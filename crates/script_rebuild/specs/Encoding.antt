@@ -1,25 +1,13 @@
 -- The encoders of system traces, and what they have to stand for, so that an item is written.
-use Rattle.std.specs.Prelude.{◌≡◌, ◌<◌, ℕ, List, [], ◌∷◌, ◌++◌, length, map, ◌==◌, if◌then◌else◌, slice_index_or, true, false}
-use Rattle.std.specs.Prelude.{Option, Result}
+use Rattle.std.specs.Prelude.{◌≡◌, ◌<◌, ℕ, List, [], ◌∷◌, ◌++◌, length, map, ◌==◌, if◌then◌else◌, slice_index_or, true}
+use Rattle.std.specs.Prelude.{false, Option, Result, All}
 use Rattle.std.specs.Result.{OnOk}
-use Rattle.std.specs.List.{All, list_any}
-use Rattle.stp_grammar.specs.declared.packet.Order.{Order}
-use Rattle.stp_encoder.specs.Puts.{Put, items_in, unmarked}
+use Rattle.std.specs.List.{list_any}
+use Rattle.script_rebuild.specs.Names.{Order, Put, items_in, unmarked, end_bytes, Puts, has_place, Formatter, Turns}
+use Rattle.script_rebuild.specs.Names.{Item, Stp, Of as OfLine, Line2, One, as_one, LineFault}
 use Rattle.stp_encoder.specs.Puts.{Flush as FlushPut}
 use Rattle.stp_encoder.specs.Encoder as encoders
-use Rattle.stp_encoder.specs.Bytes.{end_bytes}
-use Rattle.port_formatter.specs.Formatter.{Puts}
-use Rattle.port_formatter.specs.Port.{has_place}
-use Rattle.port_formatter.specs.declared.formatter.Formatter.{Formatter}
-use Rattle.trace_funnel.specs.declared.turns.Turns.{Turns}
-use Rattle.script_text.specs.declared.items.Item.{Item}
-use Rattle.script_text.specs.declared.items.Item.TheVariants.{Stp}
-use Rattle.script_text.specs.declared.lines.Line.TheVariants.{Of as OfLine}
-use Rattle.script_text.specs.declared.version_two.Line2.{Line2}
-use Rattle.script_text.specs.declared.version_two.Line2.TheVariants.{One}
 use Rattle.script_text.specs.Lines.{◌>>=◌}
-use Rattle.script_text.specs.VersionTwo.{as_one}
-use Rattle.script_text.specs.declared.line_fault.LineFault.{LineFault}
 use Rattle.script_rebuild.specs.Script.{items_of, item_bytes, tagged}
 use Rattle.script_rebuild.specs.Versions.{fitting_item}
 use Rattle.script_rebuild.specs.Routed.{placed, line_if}

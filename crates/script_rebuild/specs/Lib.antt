@@ -1,3 +1,4 @@
+pub mod Names
 pub mod Script
 pub mod Segments
 pub mod Versions

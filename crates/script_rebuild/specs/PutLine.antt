@@ -1,13 +1,8 @@
 -- What the putting of a line does, and what is known of a line's text.
-use Rattle.std.specs.Prelude.{◌≡◌, ◌≤◌, ℕ, List, [], ◌∷◌, ◌++◌, length, Option, IfSome, Result, Ok}
-use Rattle.std.specs.Result.{OnOk}
-use Rattle.port_formatter.specs.Port.{Port, written}
-use Rattle.script_text.specs.declared.version_two.Line2.{Line2}
-use Rattle.script_text.specs.declared.version_two.Line2.TheVariants.{Flush}
-use Rattle.script_text.specs.declared.line_fault.LineFault.{LineFault}
-use Rattle.script_text.specs.declared.quick.PacketLine.{PacketLine}
+use Rattle.std.specs.Prelude.{◌≡◌, ◌≤◌, ℕ, List, [], ◌∷◌, ◌++◌, length, Option, IfSome, Result, Ok, Err}
+use Rattle.std.specs.Result.{OnOk, IfErr}
+use Rattle.script_rebuild.specs.Names.{Port, written, Line2, Flush, LineFault, PacketLine, IsPacketOf}
 use Rattle.script_text.specs.Lines.{◌>>=◌}
-use Rattle.script_text.specs.Quick.{IsPacketOf}
 use Rattle.script_rebuild.specs.declared.plan.RebuildPlan.{RebuildPlan}
 use Rattle.script_rebuild.specs.declared.version.Version.{Version}
 use Rattle.script_rebuild.specs.Rebuilt.{port_of}
@@ -52,9 +47,9 @@ fits_after lines read = read >>= fitting lines
 abbrev pub says_placed : RebuildPlan → Version → List Line2 → List ℕ → Result Line2 LineFault
 says_placed p version lines text = says p.plan version lines text >>= placed p.funnel
 
--- some line is said
-abbrev pub SaysLine : Result Line2 LineFault → Type 0
-SaysLine said = (line : Line2) × (said ≡ Ok line)
+-- the answer is good where some line is said, and else that is the fault
+abbrev pub AnswersTo : Result Line2 LineFault → Result (Unit {0}) LineFault → Type 0
+AnswersTo said answer = OnOk answer ((line : Line2) × (said ≡ Ok line)) × IfErr answer (λ fault. said ≡ Err fault)
 
 -- the text says a line after these, the writer stands for it too, and what became sure with it is kept
 pub record PutsLine (p : RebuildPlan) (version : Version) (text : List ℕ) (old new : LineWriter) (lines : List Line2)
@@ -66,6 +61,12 @@ pub record PutsLine (p : RebuildPlan) (version : Version) (text : List ℕ) (old
   pub kept : kept_by new ≡ kept_by old ++ more
   pub grown : sure_lines (port_of p) p.plan.order (in_order p.plan.stp) (lines ++ line ∷ [])
       ≡ sure_lines (port_of p) p.plan.order (in_order p.plan.stp) lines ++ more
+
+-- the text's line is put where the answer is good, and else that is its fault
+pub record PutsText (p : RebuildPlan) (version : Version) (text : List ℕ) (old new : LineWriter) (lines : List Line2)
+    (answer : Result (Unit {0}) LineFault) : Type 0 where
+  pub ok : OnOk answer (PutsLine p version text old new lines)
+  pub err : IfErr answer (λ fault. says_placed p version lines text ≡ Err fault)
 
 -- a line's text, with the packet that was found in it, if one was
 abbrev pub IsText : List ℕ → Option PacketLine → Type 0

@@ -1,43 +1,14 @@
 -- The reading of more lines.
-use Rattle.std.proofs.Common.{
-  ◌≡◌,
-  ℕ,
-  ◌+◌,
-  List,
-  [],
-  ◌∷◌,
-  ◌++◌,
-  refl,
-  sym,
-  ◌∙◌,
-  ap,
-  Bool,
-  true,
-  false,
-  Option,
-  Some,
-  None,
-  Result,
-  Ok,
-  Err,
-  append-nil,
-  append_assoc,
-  length,
-  length-append,
-  arith,
-}
-use Rattle.std.specs.Prelude.{nat_lt, is_some, if◌then◌else◌}
-use Rattle.std.specs.Str.{bytes_eq}
+use Rattle.std.proofs.Common.{◌≡◌, ℕ, ◌+◌, List, [], ◌∷◌, ◌++◌, refl, sym, ◌∙◌, ap, Bool, true, false, Option, Some}
+use Rattle.std.proofs.Common.{None, Result, Ok, Err, append-nil, append_assoc, length, length-append, arith, nat_lt}
+use Rattle.std.proofs.Common.{is_some, if◌then◌else◌, bytes_eq}
 use Rattle.std.proofs.lemmas.Bool.Decides.{nat_tests}
 use Rattle.std.proofs.lemmas.Slice.Eq.{bytes_eq-Decides}
-use Rattle.source_events.specs.declared.plan.Plan.{Plan}
-use Rattle.script_text.specs.declared.version_two.Line2.{Line2}
-use Rattle.script_text.specs.declared.version_two.Line2.TheVariants.{One}
-use Rattle.script_text.specs.declared.lines.Line.TheVariants.{Nothing}
-use Rattle.script_text.specs.declared.line_fault.LineFault.{LineFault}
-use Rattle.script_text.specs.declared.line_fault.LineFault.TheVariants.{LongLine}
-use Rattle.script_text.specs.Lines.{◌>>=◌, line_of}
-use Rattle.script_text.specs.VersionTwo.{as_one, line2_of}
+use Rattle.script_rebuild.specs.Names.{Plan, Line, Line2, One, Nothing, LineFault, LongLine, BadLine, line_of, as_one}
+use Rattle.script_rebuild.specs.Names.{line_of_words}
+use Rattle.script_text.specs.Shapes.{shape_named}
+use Rattle.script_text.proofs.NewLines.{same_line}
+use Rattle.script_text.specs.Lines.{◌>>=◌}
 use Rattle.script_rebuild.specs.declared.version.Version.{Version}
 use Rattle.script_rebuild.specs.declared.version.Version.TheVariants.{Unknown, First, Second}
 use Rattle.script_rebuild.specs.Versions.{Reading, header, version_after, version_then, says, says_one, fitting}
@@ -114,36 +85,44 @@ pub stuck : (plan : Plan) (version : Version) (r : Reading) (texts : List (List 
 stuck plan version r texts None h = cc
 stuck plan version r texts (Some fault) h = refl
 
+-- the header is no line of version 1
+header_bad : (plan : Plan) → line_of plan header ≡ Err BadLine
+unfolding line_of line_of_words shape_named
+header_bad plan = refl
+
+pub not_header : (plan : Plan) (text : List ℕ) → (line_of plan text ≡ Err BadLine → ⊥) → bytes_eq header text ≡ false
+not_header plan text other = by (bytes_eq header text) refl
+  where
+    by : (v : Bool) → bytes_eq header text ≡ v → v ≡ false
+    by false e = refl
+    by true e =
+        absurd (other (ap (line_of plan) (sym ((bytes_eq-Decides header text).0 e)) ∙ header_bad plan))
+
+-- what a text says in each version where it has another fault there than BadLine
+abbrev cause_of : Result Line LineFault → LineFault
+cause_of (Ok line) = LongLine
+cause_of (Err fault) = fault
+
+pub says_fault : (plan : Plan) (version : Version) (lines : List Line2) (text : List ℕ) (fault : LineFault) →
+    line_of plan text ≡ Err fault → (fault ≡ BadLine → ⊥) → says plan version lines text ≡ Err fault
+says_fault plan Unknown lines text fault e other =
+    ap (λ (v : Bool). if v then Ok (One Nothing) else says_one plan lines text)
+    (not_header plan text (λ h. other (ap cause_of (sym e ∙ h)))) ∙ ap (λ r. as_one r >>= fitting lines) e
+says_fault plan First lines text fault e other = ap (λ r. as_one r >>= fitting lines) e
+says_fault plan Second lines text fault e other =
+    ap (λ r. r >>= fitting lines) (same_line plan text (Err fault) e (λ h. other (ap cause_of h)))
+
 -- a line of over 256 bytes
 long_line : (plan : Plan) (line : List ℕ) → nat_lt 256 (length line) ≡ true → line_of plan line ≡ Err LongLine
 unfolding line_of
 long_line plan line h = rw h refl
 
-long_line2 : (plan : Plan) (line : List ℕ) → nat_lt 256 (length line) ≡ true → line2_of plan line ≡ Err LongLine
-unfolding line2_of
-long_line2 plan line h = rw h refl
-
 pub long_more : (front back : List ℕ) → nat_lt 256 (length front) ≡ true → nat_lt 256 (length (front ++ back)) ≡ true
 long_more front back h = let len = length-append front back in grind (arith, nat_tests)
 
--- is not the header
-not_header : (line : List ℕ) → nat_lt 256 (length line) ≡ true → bytes_eq header line ≡ false
-not_header line h = by (bytes_eq header line) refl
-  where
-    by : (v : Bool) → bytes_eq header line ≡ v → v ≡ false
-    by false e = refl
-    by true e =
-        let same : header ≡ line = (bytes_eq-Decides header line).0 e in
-        let short : nat_lt 256 (length line) ≡ false = ap (λ (l : List ℕ). nat_lt 256 (length l)) (sym same) in
-        let clash : true ≡ false = sym h ∙ short in cc
-
 pub says_long : (plan : Plan) (version : Version) (before : List Line2) (line : List ℕ) →
     nat_lt 256 (length line) ≡ true → says plan version before line ≡ Err LongLine
-says_long plan Unknown before line h =
-    ap (λ (v : Bool). if v then Ok (One Nothing) else says_one plan before line) (not_header line h)
-    ∙ ap (λ r. as_one r >>= fitting before) (long_line plan line h)
-says_long plan First before line h = ap (λ r. as_one r >>= fitting before) (long_line plan line h)
-says_long plan Second before line h = ap (λ r. r >>= fitting before) (long_line2 plan line h)
+says_long plan version before line h = says_fault plan version before line LongLine (long_line plan line h) (λ e. cc)
 
 read_long : (plan : Plan) (version : Version) (before : List Line2) (line : List ℕ) (lines : List (List ℕ)) →
     nat_lt 256 (length line) ≡ true →

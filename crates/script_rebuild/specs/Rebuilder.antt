@@ -1,17 +1,16 @@
 -- What the action stands for.
-use Rattle.std.specs.Prelude.{◌≡◌, ℕ, List, [], ◌∷◌, ◌++◌, length, Option, None, Some, is_some, option_map, Bool, true, false}
-use Rattle.frame_writer.specs.Fronts.{all_but_last}
+use Rattle.std.specs.Prelude.{◌≡◌, ℕ, List, [], ◌∷◌, ◌++◌, length, Option, None, Some, is_some, option_map, Bool, true}
+use Rattle.std.specs.Prelude.{false}
+use Rattle.script_rebuild.specs.Names.{all_but_last, LineFault, Debt, owing, with_debt, HasTaken}
 use Rattle.trace_stream.specs.Owed.{last_of}
 use Rattle.script_rebuild.specs.Writer as writers
-use Rattle.script_text.specs.declared.line_fault.LineFault.{LineFault}
 use Rattle.script_rebuild.specs.declared.plan.RebuildPlan.{RebuildPlan}
 use Rattle.script_rebuild.specs.declared.plan.ScriptFault.{ScriptFault}
 use Rattle.script_rebuild.specs.declared.rebuild.Rebuild.{Rebuild}
 use Rattle.script_rebuild.specs.declared.version.Version.TheVariants.{Unknown}
 use Rattle.script_rebuild.specs.Versions.{lines_in, version_then}
-use Rattle.script_rebuild.specs.Rebuilt.{open_line, port_of, routed_so_far, routed_script, text, ending, rebuild_meaning}
-use Rattle.trace_stream.specs.Debt.{Debt, owing, with_debt}
-use Rattle.trace_stream.specs.Taken.{HasTaken}
+use Rattle.script_rebuild.specs.Rebuilt.{open_line, port_of, routed_so_far, routed_script, text, ending}
+use Rattle.script_rebuild.specs.Rebuilt.{rebuild_meaning}
 
 -- a fault as its line's number and its cause
 abbrev pub told : ScriptFault → ℕ × LineFault

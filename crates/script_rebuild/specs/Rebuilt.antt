@@ -1,12 +1,7 @@
 -- What a script becomes (this project's profile): its capture, of which the bytes so far make a front sure.
-use Rattle.std.specs.Prelude.{◌≡◌, ℕ, ◌+◌, List, [], ◌∷◌, ◌++◌, length, drop, true, nat_lt}
-use Rattle.std.specs.Prelude.{if◌then◌else◌, Option, None, Some, is_some, Err, false}
-use Rattle.trace_stream.specs.Served.{Meaning}
-use Rattle.source_events.specs.declared.plan.Plan.{Plan}
-use Rattle.frame_writer.specs.Fronts.{all_but_last}
-use Rattle.port_formatter.specs.Port.{Port, written}
-use Rattle.script_text.specs.declared.line_fault.LineFault.{LineFault}
-use Rattle.script_text.specs.declared.version_two.Line2.{Line2}
+use Rattle.std.specs.Prelude.{◌≡◌, ℕ, ◌+◌, List, [], ◌∷◌, ◌++◌, length, drop, true, nat_lt, if◌then◌else◌, Option, None}
+use Rattle.std.specs.Prelude.{Some, is_some, Err, false}
+use Rattle.script_rebuild.specs.Names.{Meaning, Plan, all_but_last, Port, written, LineFault, Line2}
 use Rattle.script_rebuild.specs.declared.version.Version.TheVariants.{Unknown}
 use Rattle.script_rebuild.specs.Routed.{routed_by}
 use Rattle.script_rebuild.specs.Script.{in_order}

@@ -1,12 +1,7 @@
 -- How what is written grows with the bytes of a script.
-use Rattle.std.specs.Prelude.{◌≡◌, ℕ, List, [], ◌++◌, refl, Option, None, Some, is_some, true}
-use Rattle.std.proofs.Common.{[], ap, sym, ◌∙◌, append-nil}
-use Rattle.trace_stream.specs.Served.{IsLawful}
-use Rattle.frame_writer.specs.Fronts.{sure}
+use Rattle.std.proofs.Common.{◌≡◌, ℕ, List, [], ◌++◌, refl, Option, None, Some, is_some, true, ap, sym, ◌∙◌, append-nil}
+use Rattle.script_rebuild.specs.Names.{IsLawful, sure, LineFault, Plan, Turns}
 use Rattle.frame_writer.proofs.Sureness.{nothing_sure}
-use Rattle.script_text.specs.declared.line_fault.LineFault.{LineFault}
-use Rattle.source_events.specs.declared.plan.Plan.{Plan}
-use Rattle.trace_funnel.specs.declared.turns.Turns.{Turns}
 use Rattle.script_rebuild.specs.Script.{in_order}
 use Rattle.script_rebuild.specs.Routed.{routed_by}
 use Rattle.script_rebuild.specs.RoutedLaws.{settled_by, end_settled, lines_extend}
@@ -14,8 +9,8 @@ use Rattle.script_rebuild.specs.Segments.{sure_lines}
 use Rattle.script_rebuild.specs.Versions.{Reading}
 use Rattle.script_rebuild.specs.ScriptLaws.{sure_more}
 use Rattle.script_rebuild.specs.declared.plan.RebuildPlan.{RebuildPlan}
-use Rattle.script_rebuild.specs.Rebuilt.{read_so_far, port_of, routed_so_far, routed_script, text, left_of, script_capture}
-use Rattle.script_rebuild.specs.Rebuilt.{rebuild_meaning}
+use Rattle.script_rebuild.specs.Rebuilt.{read_so_far, port_of, routed_so_far, routed_script, text, left_of}
+use Rattle.script_rebuild.specs.Rebuilt.{script_capture, rebuild_meaning}
 use Rattle.script_rebuild.specs.GrowthLaws.{so_far_extends}
 
 pub nothing_left : (whole front : List ℕ) (fault : Option (ℕ × LineFault)) → is_some fault ≡ true →

@@ -1,12 +1,7 @@
 -- What a longer script reads as, where only lines with a place go to the port.
 use Rattle.std.proofs.Common.{◌≡◌, ℕ, List, [], ◌∷◌, ◌++◌, refl, sym, ◌∙◌, ap, subst, Bool, true, false, cond}
-use Rattle.std.proofs.Common.{append-nil, append_assoc, length, Option, None, Some}
-use Rattle.std.specs.Prelude.{is_some, ◌+◌, ◌&&◌}
-use Rattle.source_events.specs.declared.plan.Plan.{Plan}
-use Rattle.script_text.specs.declared.line_fault.LineFault.{LineFault}
-use Rattle.script_text.specs.declared.line_fault.LineFault.TheVariants.{Unrouted}
-use Rattle.script_text.specs.declared.version_two.Line2.{Line2}
-use Rattle.trace_funnel.specs.declared.turns.Turns.{Turns}
+use Rattle.std.proofs.Common.{append-nil, append_assoc, length, Option, None, Some, is_some, ◌+◌, ◌&&◌}
+use Rattle.script_rebuild.specs.Names.{Plan, LineFault, Unrouted, Line2, Turns}
 use Rattle.script_rebuild.specs.GrowthLaws.{settled, so_far_extends, whole_extends}
 use Rattle.script_rebuild.specs.ReadingLaws.{Extends}
 use Rattle.script_rebuild.specs.Rebuilt.{read_so_far}
@@ -46,24 +41,33 @@ module _ (order : List ℕ) where
       by true e = e
       by false e = record { more = []; all = sym (append-nil before) }
 
-  -- once a line has no place, further ones change nothing
-  pub routed_stuck : (later : Option (ℕ × LineFault)) (before lines more : List Line2) →
-      is_some (routed_on order None before lines).fault ≡ true →
-      routed_on order later before (lines ++ more) ≡ routed_on order None before lines
-  routed_stuck later before [] more e = absurd (let no = e in cc)
-  routed_stuck later before (line ∷ lines) more e =
-      by (is_routed order line) (routed_stuck later (before ++ line ∷ []) lines more) e
-    where
-      next : List Line2
-      next = before ++ line ∷ []
+  -- lines after those that were read, up to the first without a place
+  abbrev pub on_from : Option (ℕ × LineFault) → Reading → List Line2 → Option (ℕ × LineFault) → Reading
+  on_from later r more None = routed_on order later r.lines more
+  on_from later r more (Some fault) = r
 
-      by : (v : Bool) → (is_some (routed_on order None next lines).fault ≡ true →
-          routed_on order later next (lines ++ more) ≡ routed_on order None next lines) →
-          is_some (cond v (routed_on order None next lines) (unrouted before)).fault ≡ true →
-          cond v (routed_on order later next (lines ++ more)) (unrouted before)
-          ≡ cond v (routed_on order None next lines) (unrouted before)
-      by true same h = same h
-      by false same h = refl
+  pub routed_append : (later : Option (ℕ × LineFault)) (before lines more : List Line2) →
+      routed_on order later before (lines ++ more)
+      ≡ on_from later (routed_on order None before lines) more (routed_on order None before lines).fault
+  routed_append later before [] more = refl
+  routed_append later before (line ∷ lines) more =
+      by (is_routed order line) (routed_append later (before ++ line ∷ []) lines more)
+    where
+      first : Reading
+      first = routed_on order None (before ++ line ∷ []) lines
+
+      by : (v : Bool) →
+          routed_on order later (before ++ line ∷ []) (lines ++ more) ≡ on_from later first more first.fault →
+          cond v (routed_on order later (before ++ line ∷ []) (lines ++ more)) (unrouted before)
+          ≡ on_from later (cond v first (unrouted before)) more (cond v first (unrouted before)).fault
+      by true same = same
+      by false same = refl
+
+  -- once a line has no place, further ones change nothing
+  routed_stuck : (later : Option (ℕ × LineFault)) (r : Reading) (more : List Line2) (fault : Option (ℕ × LineFault)) →
+      is_some fault ≡ true → on_from later r more fault ≡ r
+  routed_stuck later r more None e = cc
+  routed_stuck later r more (Some fault) e = refl
 
 -- where the script so far has a fault, it and the whole script have just that, whatever follows
 pub record IsSettledBy (funnel : Option Turns) (plan : Plan) (xs ys : List ℕ) : Type 0 where
@@ -75,8 +79,10 @@ module _ (order : List ℕ) (old : Reading) where
   stuck_at : (r : Reading) → Extends old.lines r.lines → old.fault ≡ None →
       is_some (routed order old).fault ≡ true → routed order r ≡ routed order old
   stuck_at r longer none faulty =
+      let alone = routed_on order None [] old.lines in
       ap (λ (l : List Line2). routed_on order r.fault [] l) longer.all
-      ∙ routed_stuck order r.fault [] old.lines longer.more
+      ∙ routed_append order r.fault [] old.lines longer.more
+      ∙ routed_stuck order r.fault alone longer.more alone.fault
       (ap (λ (f : Option (ℕ × LineFault)). is_some (routed_on order f [] old.lines).fault) (sym none) ∙ faulty)
       ∙ ap (λ (f : Option (ℕ × LineFault)). routed_on order f [] old.lines) (sym none)
 
@@ -117,50 +123,6 @@ end_settled funnel plan xs faulty =
     subst (λ (l : List ℕ). routed_by funnel (script_of plan l) ≡ routed_by funnel (read_so_far plan xs)) (append-nil xs)
     (settled_by funnel plan xs [] faulty).whole
 
--- a reading without a fault has all lines, and each has a place
-pub record AreAllRouted (order : List ℕ) (fault : Option (ℕ × LineFault)) (before lines : List Line2) : Type 0 where
-  pub no_fault : fault ≡ None
-  pub same : (routed_on order fault before lines).lines ≡ before ++ lines
-  pub places : are_routed order lines ≡ true
-
-pub all_routed : (order : List ℕ) (fault : Option (ℕ × LineFault)) (before lines : List Line2) →
-    (routed_on order fault before lines).fault ≡ None → AreAllRouted order fault before lines
-all_routed order fault before [] e = record { no_fault = e; same = sym (append-nil before); places = refl }
-all_routed order fault before (line ∷ lines) e =
-    by (is_routed order line) refl e (λ f. all_routed order fault (before ++ line ∷ []) lines f)
-  where
-    next : List Line2
-    next = before ++ line ∷ []
-
-    unplaced : Reading
-    unplaced = record { lines = before; fault = Some (length before + 1, Unrouted) }
-
-    by : (v : Bool) → is_routed order line ≡ v →
-        (cond v (routed_on order fault next lines) unplaced).fault ≡ None →
-        ((routed_on order fault next lines).fault ≡ None → AreAllRouted order fault next lines) →
-        AreAllRouted order fault before (line ∷ lines)
-    by true h f further =
-        let more = further f in
-        record {
-          no_fault = more.no_fault;
-          same = ap (λ (v : Bool). (cond v (routed_on order fault next lines) unplaced).lines) h ∙ more.same
-              ∙ append_assoc before (line ∷ []) lines;
-          places = ap (λ (v : Bool). v && are_routed order lines) h ∙ more.places;
-        }
-    by false h f further = absurd (let no = f in cc)
-
--- with a funnel or without
-pub record AreAllPlaced (funnel : Option Turns) (r : Reading) : Type 0 where
-  pub no_fault : r.fault ≡ None
-  pub same : (routed_by funnel r).lines ≡ r.lines
-  pub places : are_placed funnel r.lines ≡ true
-
-pub all_placed : (funnel : Option Turns) (r : Reading) → (routed_by funnel r).fault ≡ None → AreAllPlaced funnel r
-all_placed None r e = record { no_fault = e; same = refl; places = refl }
-all_placed (Some turns) r e =
-    let all = all_routed turns.order r.fault [] r.lines e in
-    record { no_fault = all.no_fault; same = all.same; places = all.places }
-
 -- what is read begins what there is, and each line of it has a place
 pub record IsPlacedFront (funnel : Option Turns) (r : Reading) : Type 0 where
   pub rest : List Line2
@@ -173,11 +135,12 @@ record IsRoutedFront (order : List ℕ) (fault : Option (ℕ × LineFault)) (bef
   all : (routed_on order fault before lines).lines ≡ before ++ front
   parts : lines ≡ front ++ rest
   places : are_routed order front ≡ true
+  whole : (routed_on order fault before lines).fault ≡ None → (fault ≡ None) × (rest ≡ [])
 
 routed_front : (order : List ℕ) (fault : Option (ℕ × LineFault)) (before lines : List Line2) →
     IsRoutedFront order fault before lines
 routed_front order fault before [] =
-    record { front = []; rest = []; all = sym (append-nil before); parts = refl; places = refl }
+    record { front = []; rest = []; all = sym (append-nil before); parts = refl; places = refl; whole = λ e. (e, refl) }
 routed_front order fault before (line ∷ lines) =
     by (is_routed order line) refl (routed_front order fault (before ++ line ∷ []) lines)
   where
@@ -196,6 +159,7 @@ routed_front order fault before (line ∷ lines) =
           ∙ append_assoc before (line ∷ []) more.front;
       parts = ap (λ (l : List Line2). line ∷ l) more.parts;
       places = ap (λ (v : Bool). v && are_routed order more.front) h ∙ more.places;
+      whole = λ e. more.whole (ap (λ (v : Bool). (cond v (routed_on order fault next lines) unplaced).fault) (sym h) ∙ e);
     }
     by false h more = record {
       front = [];
@@ -203,6 +167,8 @@ routed_front order fault before (line ∷ lines) =
       all = ap (λ (v : Bool). (cond v (routed_on order fault next lines) unplaced).lines) h ∙ sym (append-nil before);
       parts = refl;
       places = refl;
+      whole = λ e.
+          let no = ap (λ (v : Bool). (cond v (routed_on order fault next lines) unplaced).fault) (sym h) ∙ e in absurd cc;
     }
 
 pub placed_front : (funnel : Option Turns) (r : Reading) → IsPlacedFront funnel r
@@ -213,4 +179,23 @@ placed_front (Some turns) r =
       rest = f.rest;
       parts = f.parts ∙ ap (λ (l : List Line2). l ++ f.rest) (sym f.all);
       places = subst (λ (l : List Line2). are_routed turns.order l ≡ true) (sym f.all) f.places;
+    }
+
+-- a reading without a fault has all lines, and each has a place
+pub record AreAllPlaced (funnel : Option Turns) (r : Reading) : Type 0 where
+  pub no_fault : r.fault ≡ None
+  pub same : (routed_by funnel r).lines ≡ r.lines
+  pub places : are_placed funnel r.lines ≡ true
+
+pub all_placed : (funnel : Option Turns) (r : Reading) → (routed_by funnel r).fault ≡ None → AreAllPlaced funnel r
+all_placed None r e = record { no_fault = e; same = refl; places = refl }
+all_placed (Some turns) r e =
+    let f = routed_front turns.order r.fault [] r.lines in
+    let whole = f.whole e in
+    let same : f.front ≡ r.lines =
+    sym (f.parts ∙ ap (λ (l : List Line2). f.front ++ l) whole.1 ∙ append-nil f.front) in
+    record {
+      no_fault = whole.0;
+      same = f.all ∙ same;
+      places = subst (λ (l : List Line2). are_routed turns.order l ≡ true) same f.places;
     }

@@ -1,21 +1,11 @@
 -- Lines, for worked rows.
 use Rattle.std.specs.Prelude.{ℕ, List, [], ◌∷◌, ◌++◌, map, flat_map, codes}
-use Rattle.frame_grammar.specs.Rows.{hex}
-use Rattle.stp_grammar.specs.declared.item.Stamp.TheVariants.{None as NoStamp, Natural}
-use Rattle.stp_grammar.specs.declared.item.StpItem.TheVariants.{Async, Version}
-use Rattle.stp_encoder.specs.Rows.{at, byte_at}
+use Rattle.script_rebuild.specs.Names.{hex, Natural, Async, Version, at, byte_at, Sync, Software, Itm, Dwt, Stp, Raw}
+use Rattle.script_rebuild.specs.Names.{Nothing, Of, Line2, One as OneLine, Flush, Trigger, Plan, both, Tagged}
+use Rattle.script_rebuild.specs.Names.{written_segments, all_passed, Turns}
+use Rattle.stp_grammar.specs.declared.item.Stamp.TheVariants.{None as NoStamp}
 use Rattle.itm_grammar.specs.declared.packet.Size.TheVariants.{One}
-use Rattle.itm_grammar.specs.declared.packet.ItmPacket.TheVariants.{Sync, Software}
 use Rattle.dwt_packets.specs.declared.item.DwtItem.TheVariants.{Counters}
-use Rattle.script_text.specs.declared.items.Item.TheVariants.{Itm, Dwt, Stp, Raw}
-use Rattle.script_text.specs.declared.lines.Line.TheVariants.{Nothing, Of}
-use Rattle.script_text.specs.declared.version_two.Line2.{Line2}
-use Rattle.script_text.specs.declared.version_two.Line2.TheVariants.{One as OneLine, Flush, Trigger}
-use Rattle.source_events.specs.declared.plan.Plan.{Plan}
-use Rattle.script_text.specs.Rows.{both}
-use Rattle.frame_writer.specs.Written.{Tagged, written_segments}
-use Rattle.port_formatter.specs.Passed.{all_passed}
-use Rattle.trace_funnel.specs.declared.turns.Turns.{Turns}
 use Rattle.script_rebuild.specs.Routed.{routed}
 use Rattle.script_rebuild.specs.Segments.{script_segments}
 use Rattle.script_rebuild.specs.Versions.{Reading, script_of}

@@ -1,23 +1,11 @@
 -- What the lines of a script give each source (this project's profile), and the bytes of their items.
-use Rattle.std.specs.Prelude.{ℕ, List, [], ◌∷◌, map, flat_map, ◌==◌, if◌then◌else◌}
-use Rattle.std.specs.List.{filter, list_any, range_with_len}
-use Rattle.itm_grammar.specs.Shortest.{short}
+use Rattle.std.specs.Prelude.{ℕ, List, [], ◌∷◌, map, flat_map, ◌==◌, if◌then◌else◌, filter}
+use Rattle.std.specs.List.{list_any, range_with_len}
+use Rattle.script_rebuild.specs.Names.{short, Hardware, packet, Order, StpItem, Put, unmarked, put_bytes, end_bytes}
+use Rattle.script_rebuild.specs.Names.{Tagged, Item, Itm, Dwt, Stp, Raw, Line, Nothing, Of, Line2, One, Flush, Trigger}
 use Rattle.itm_grammar.specs.declared.packet.Size.{Size}
 use Rattle.itm_grammar.specs.declared.packet.ItmPacket.{ItmPacket}
-use Rattle.itm_grammar.specs.declared.packet.ItmPacket.TheVariants.{Hardware}
-use Rattle.dwt_packets.specs.Packet.{packet}
-use Rattle.stp_grammar.specs.declared.packet.Order.{Order}
-use Rattle.stp_grammar.specs.declared.item.StpItem.{StpItem}
-use Rattle.stp_encoder.specs.Puts.{Put, unmarked}
 use Rattle.stp_encoder.specs.Puts.{Flush as FlushPut}
-use Rattle.stp_encoder.specs.Bytes.{put_bytes, end_bytes}
-use Rattle.frame_writer.specs.Written.{Tagged}
-use Rattle.script_text.specs.declared.items.Item.{Item}
-use Rattle.script_text.specs.declared.items.Item.TheVariants.{Itm, Dwt, Stp, Raw}
-use Rattle.script_text.specs.declared.lines.Line.{Line}
-use Rattle.script_text.specs.declared.lines.Line.TheVariants.{Nothing, Of}
-use Rattle.script_text.specs.declared.version_two.Line2.{Line2}
-use Rattle.script_text.specs.declared.version_two.Line2.TheVariants.{One, Flush, Trigger}
 
 -- == What lines give each source
 

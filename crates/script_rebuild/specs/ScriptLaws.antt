@@ -1,12 +1,8 @@
 -- What lines put after others.
 use Rattle.std.proofs.Common.{◌≡◌, ◌≤◌, ℕ, List, [], ◌∷◌, ◌++◌, sym, ◌∙◌, ap, append_assoc, append-nil}
-use Rattle.stp_grammar.specs.declared.packet.Order.{Order}
-use Rattle.frame_writer.specs.Written.{Tagged}
-use Rattle.port_formatter.specs.Port.{Port, sure_of, written}
+use Rattle.script_rebuild.specs.Names.{Order, Tagged, Port, sure_of, written, Segments, no_segments, with_bytes, Line2}
+use Rattle.script_rebuild.specs.Names.{One, Flush, Trigger}
 use Rattle.port_formatter.specs.PortLaws.{sure_grows, sure_flushed, sure_begins}
-use Rattle.port_formatter.specs.Segments.{Segments, no_segments, with_bytes}
-use Rattle.script_text.specs.declared.version_two.Line2.{Line2}
-use Rattle.script_text.specs.declared.version_two.Line2.TheVariants.{One, Flush, Trigger}
 use Rattle.script_rebuild.specs.Script.{given_puts, ends_with}
 use Rattle.script_rebuild.specs.Segments.{line_bytes, after_line, with_line, segments_after, segments_of}
 use Rattle.script_rebuild.specs.Segments.{segments_with_ends, sure_lines}

@@ -1,12 +1,7 @@
 -- The segments of bytes that the lines of a script put (this project's profile): each flush ends one.
 use Rattle.std.specs.Prelude.{ℕ, List, [], ◌∷◌, ◌++◌}
-use Rattle.stp_grammar.specs.declared.packet.Order.{Order}
-use Rattle.frame_writer.specs.Written.{Tagged}
-use Rattle.port_formatter.specs.Port.{Port, sure_of}
-use Rattle.port_formatter.specs.Segments.{Segments, no_segments, with_bytes, now_ended, after_flush}
-use Rattle.source_events.specs.declared.plan.Plan.{Plan}
-use Rattle.script_text.specs.declared.version_two.Line2.{Line2}
-use Rattle.script_text.specs.declared.version_two.Line2.TheVariants.{One, Flush, Trigger}
+use Rattle.script_rebuild.specs.Names.{Order, Tagged, Port, sure_of, Segments, no_segments, with_bytes, now_ended}
+use Rattle.script_rebuild.specs.Names.{after_flush, Plan, Line2, One, Flush, Trigger}
 use Rattle.script_rebuild.specs.Script.{given_puts, tagged, bytes_with, ends_with, in_order}
 
 -- the bytes that a line puts after others: a flush those of these STP sources' kept nibbles

@@ -1,9 +1,9 @@
 -- The lines of longer scripts.
-use Rattle.std.proofs.Common.{◌≡◌, ℕ, List, [], ◌∷◌, ◌++◌, refl, sym, ◌∙◌, ap, Bool, true, false, append-nil}
-use Rattle.std.specs.Prelude.{◌==◌, if◌then◌else◌, All}
+use Rattle.std.proofs.Common.{◌≡◌, ℕ, List, [], ◌∷◌, ◌++◌, refl, sym, ◌∙◌, ap, Bool, true, false, append-nil, ◌==◌}
+use Rattle.std.proofs.Common.{if◌then◌else◌, All}
 use Rattle.std.specs.List.{onto_first}
 use Rattle.std.proofs.lemmas.List.Splits.{slice_split_none}
-use Rattle.frame_writer.specs.Fronts.{all_but_last}
+use Rattle.script_rebuild.specs.Names.{all_but_last}
 use Rattle.script_rebuild.specs.Versions.{lines_in}
 use Rattle.script_rebuild.specs.Rebuilt.{last_of, open_line}
 

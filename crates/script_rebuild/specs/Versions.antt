@@ -1,22 +1,13 @@
 -- How a script is read (this project's profile), whose first line tells its version: what its lines say, up to the
 -- first fault.
-use Rattle.std.specs.Prelude.{ℕ, ◌+◌, List, [], ◌∷◌, ◌++◌, length, codes, ◌==◌, if◌then◌else◌}
-use Rattle.std.specs.Prelude.{Option, None, Some, Result, Ok, Err}
+use Rattle.std.specs.Prelude.{ℕ, ◌+◌, List, [], ◌∷◌, ◌++◌, length, codes, ◌==◌, if◌then◌else◌, Option, None, Some}
+use Rattle.std.specs.Prelude.{Result, Ok, Err, bytes_eq}
 use Rattle.std.specs.List.{slice_split}
-use Rattle.std.specs.Str.{bytes_eq}
-use Rattle.stp_grammar.specs.declared.item.StpItem.{StpItem}
-use Rattle.stp_encoder.specs.Fitting.{version_after as stp_version, is_unfit}
-use Rattle.source_events.specs.declared.plan.Plan.{Plan}
-use Rattle.script_text.specs.declared.items.Item.{Item}
-use Rattle.script_text.specs.declared.items.Item.TheVariants.{Itm, Dwt, Stp, Raw}
-use Rattle.script_text.specs.declared.lines.Line.{Line}
-use Rattle.script_text.specs.declared.lines.Line.TheVariants.{Nothing, Of}
-use Rattle.script_text.specs.declared.version_two.Line2.{Line2}
-use Rattle.script_text.specs.declared.version_two.Line2.TheVariants.{One, Flush, Trigger}
-use Rattle.script_text.specs.declared.line_fault.LineFault.{LineFault}
-use Rattle.script_text.specs.declared.line_fault.LineFault.TheVariants.{Unfit}
-use Rattle.script_text.specs.Lines.{◌>>=◌, line_of}
-use Rattle.script_text.specs.VersionTwo.{as_one, line2_of}
+use Rattle.script_rebuild.specs.Names.{StpItem, is_unfit, Plan, Item, Itm, Dwt, Stp, Raw}
+use Rattle.script_rebuild.specs.Names.{Line, Nothing, Of, Line2, One, Flush, Trigger, LineFault, Unfit, line_of, as_one}
+use Rattle.script_rebuild.specs.Names.{line2_of}
+use Rattle.stp_encoder.specs.Fitting.{version_after as stp_version}
+use Rattle.script_text.specs.Lines.{◌>>=◌}
 use Rattle.script_rebuild.specs.declared.version.Version.{Version}
 use Rattle.script_rebuild.specs.declared.version.Version.TheVariants.{Unknown, First, Second}
 use Rattle.script_rebuild.specs.Script.{given_items}

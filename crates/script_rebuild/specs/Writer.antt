@@ -1,15 +1,8 @@
 -- What a writer of lines stands for.
 use Rattle.std.specs.Prelude.{◌≡◌, ◌≤◌, ℕ, List, Option, true}
-use Rattle.stp_grammar.specs.declared.packet.Order.{Order}
+use Rattle.script_rebuild.specs.Names.{Order, Port, Turns, Debt, Line, Nothing, Of, Line2, One, Flush, Trigger}
+use Rattle.script_rebuild.specs.Names.{IsSayable}
 use Rattle.port_formatter.specs.Formatter as formatters
-use Rattle.port_formatter.specs.Port.{Port}
-use Rattle.trace_funnel.specs.declared.turns.Turns.{Turns}
-use Rattle.trace_stream.specs.Debt.{Debt}
-use Rattle.script_text.specs.declared.lines.Line.{Line}
-use Rattle.script_text.specs.declared.lines.Line.TheVariants.{Nothing, Of}
-use Rattle.script_text.specs.declared.version_two.Line2.{Line2}
-use Rattle.script_text.specs.declared.version_two.Line2.TheVariants.{One, Flush, Trigger}
-use Rattle.script_text.specs.Said.{IsSayable}
 use Rattle.script_rebuild.specs.Routed.{are_placed}
 use Rattle.script_rebuild.specs.Script.{given_puts}
 use Rattle.script_rebuild.specs.Segments.{segments_of}

@@ -1,21 +1,12 @@
 //! The bytes of items, and the putting of them.
 
-ghost use Rattle.std.specs.Prelude.{◌≡◌, ◌≤◌, ◌<◌, ◌+◌, ◌*◌, ◌==◌, ℕ, List, length, true};
-ghost use Rattle.std.specs.List.{position};
+ghost use Rattle.std.specs.Prelude.{◌≡◌, ◌≤◌, ◌<◌, ◌+◌, ◌*◌, ◌==◌, ℕ, List, length, true, position};
 ghost use Rattle.std.specs.Result.{OnErr};
-ghost use Rattle.trace_values.specs.declared.limits.TheConstants.{COUNT_ROOM};
+ghost use Rattle.script_rebuild.specs.Names.{COUNT_ROOM, short, Order, Put, Puts, has_place, Stp, Of, Line2, One};
+ghost use Rattle.script_rebuild.specs.Names.{IsSayable};
 ghost use Rattle.itm_grammar.specs.Proper.{IsProper};
-ghost use Rattle.itm_grammar.specs.Shortest.{short};
 ghost use Rattle.stp_grammar.specs.Proper.{IsProperItem};
-ghost use Rattle.stp_grammar.specs.declared.packet.Order.{Order};
-ghost use Rattle.stp_encoder.specs.Puts.{Put};
-ghost use Rattle.port_formatter.specs.Formatter.{Puts, HasRoom, count_of, turns_of};
-ghost use Rattle.port_formatter.specs.Port.{has_place};
-ghost use Rattle.script_text.specs.declared.items.Item.TheVariants.{Stp};
-ghost use Rattle.script_text.specs.declared.lines.Line.TheVariants.{Of};
-ghost use Rattle.script_text.specs.declared.version_two.Line2.{Line2};
-ghost use Rattle.script_text.specs.declared.version_two.Line2.TheVariants.{One};
-ghost use Rattle.script_text.specs.Said.{IsSayable};
+ghost use Rattle.port_formatter.specs.Formatter.{HasRoom, count_of, turns_of};
 ghost use Rattle.script_rebuild.specs.Routed.{is_placed, placed, line_if};
 ghost use Rattle.script_rebuild.specs.Script.{tagged};
 ghost use Rattle.script_rebuild.specs.Encoding.{ids_in, NextItem, Left, AreReady, Answers, line_for};

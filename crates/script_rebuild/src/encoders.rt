@@ -1,12 +1,8 @@
 //! The encoders of system traces.
 
-ghost use Rattle.std.specs.Prelude.{◌≡◌, ◌≤◌, ◌<◌, ◌+◌, [], ℕ, List};
-ghost use Rattle.std.specs.List.{All};
-ghost use Rattle.trace_values.specs.declared.limits.TheConstants.{COUNT_ROOM};
-ghost use Rattle.stp_grammar.specs.declared.packet.Order.{Order};
-ghost use Rattle.stp_encoder.specs.Bytes.{end_bytes};
-ghost use Rattle.stp_encoder.specs.Puts.{Put};
-ghost use Rattle.port_formatter.specs.Formatter.{Puts, HasRoom, count_of, turns_of};
+ghost use Rattle.std.specs.Prelude.{◌≡◌, ◌≤◌, ◌<◌, ◌+◌, [], ℕ, List, All};
+ghost use Rattle.script_rebuild.specs.Names.{COUNT_ROOM, Order, end_bytes, Put, Puts};
+ghost use Rattle.port_formatter.specs.Formatter.{HasRoom, count_of, turns_of};
 
 use arrayvec::ArrayVec;
 use port_formatter::Formatter;

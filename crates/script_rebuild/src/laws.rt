@@ -1,13 +1,7 @@
 //! Laws of scripts and of what they are rebuilt to, over their definitions alone.
 
 ghost use Rattle.std.specs.Prelude.{◌≡◌, ◌≤◌, ◌++◌, ◌∷◌, [], ℕ, List, None, Some};
-ghost use Rattle.stp_grammar.specs.declared.packet.Order.{Order};
-ghost use Rattle.stp_encoder.specs.Puts.{items_in};
-ghost use Rattle.source_events.specs.declared.plan.Plan.{Plan};
-ghost use Rattle.frame_writer.specs.Written.{joined};
-ghost use Rattle.port_formatter.specs.Segments.{now_ended};
-ghost use Rattle.script_text.specs.declared.line_fault.LineFault.{LineFault};
-ghost use Rattle.script_text.specs.declared.version_two.Line2.{Line2};
+ghost use Rattle.script_rebuild.specs.Names.{Order, items_in, Plan, joined, now_ended, LineFault, Line2};
 ghost use Rattle.script_rebuild.specs.Script.{given_items, given_puts};
 ghost use Rattle.script_rebuild.specs.Segments.{with_line, line_bytes, segments_of};
 ghost use Rattle.script_rebuild.specs.Versions.{lines_in, script_of};

@@ -1,22 +1,16 @@
 //! The action `rebuild`.
 
-ghost use Rattle.std.specs.Prelude.{◌≡◌, ◌≢◌, ◌≤◌, ◌<◌, ◌+◌, ◌*◌, ◌++◌, ◌==◌, ℕ, List, All, length, take};
-ghost use Rattle.std.specs.Prelude.{slice_index, false, true, None, Err, option_map, is_some};
+ghost use Rattle.std.specs.Prelude.{◌≡◌, ◌≢◌, ◌≤◌, ◌<◌, ◌+◌, ◌*◌, ◌++◌, ◌==◌, ℕ, List, All, length, take, slice_index};
+ghost use Rattle.std.specs.Prelude.{false, true, None, Err, option_map, is_some};
 ghost use Rattle.std.specs.Option.{ForSome};
-ghost use Rattle.script_text.specs.declared.line_fault.LineFault.TheVariants.{BadLine};
-ghost use Rattle.std.specs.Result.{IfOk, IfErr, OnErr, OnOk};
-ghost use Rattle.trace_values.specs.declared.limits.TheConstants.{COUNT_ROOM};
-ghost use Rattle.trace_stream.specs.Debt.{Paid};
-ghost use Rattle.trace_stream.specs.declared.limits.TheConstants.{GREATEST_CAPTURE};
-ghost use Rattle.trace_stream.specs.declared.outlet.TheConstants.{OUTLET_ROOM};
-ghost use Rattle.trace_stream.specs.declared.action.TheConstants.{ACTION_ROOM};
+ghost use Rattle.std.specs.Result.{IfOk, OnErr};
+ghost use Rattle.script_rebuild.specs.Names.{BadLine, COUNT_ROOM, Paid, GREATEST_CAPTURE, OUTLET_ROOM, ACTION_ROOM};
+ghost use Rattle.script_rebuild.specs.Names.{Line2, line_of};
 ghost use Rattle.trace_funnel.specs.SoundTurns.{IsSoundTurns};
-ghost use Rattle.script_text.specs.declared.version_two.Line2.{Line2};
-ghost use Rattle.script_text.specs.Lines.{line_of};
 ghost use Rattle.script_rebuild.specs.Versions.{says};
-ghost use Rattle.script_rebuild.specs.Writer.{count_of, kept_by, HasRoom, CanBePut2};
-ghost use Rattle.script_rebuild.specs.Writer.{Stands as StandsForLines, debt_of as debt_of_writer};
-ghost use Rattle.script_rebuild.specs.PutLine.{PutsLine, IsFor, IsText, fits_after, says_placed};
+ghost use Rattle.script_rebuild.specs.Writer.{count_of, kept_by, HasRoom, CanBePut2, Stands as StandsForLines};
+ghost use Rattle.script_rebuild.specs.Writer.{debt_of as debt_of_writer};
+ghost use Rattle.script_rebuild.specs.PutLine.{PutsText, AnswersTo, IsFor, IsText, fits_after, says_placed};
 ghost use Rattle.script_rebuild.specs.Rebuilt.{port_of};
 ghost use Rattle.script_rebuild.specs.Script.{in_order};
 
@@ -124,10 +118,8 @@ fn put_line(
     requires room { HasRoom writer.old 200 }
     ensures plan { IsFor plan.now writer.new }
     ensures same { OnErr result (writer.new ≡ writer.old) }
-    ensures ok { (lines : List Line2) → StandsForLines writer.old (port_of plan.now) lines →
-        OnOk result (PutsLine plan.now version text.now writer.old writer.new lines) }
-    ensures err { (lines : List Line2) → StandsForLines writer.old (port_of plan.now) lines →
-        IfErr result (λ fault. says_placed plan.now version lines text.now ≡ Err fault) }
+    ensures puts { (lines : List Line2) → StandsForLines writer.old (port_of plan.now) lines →
+        PutsText plan.now version text.now writer.old writer.new lines result }
     ensures count { count_of writer.new ≤ count_of writer.old + 100 }
     ensures room { (more : ℕ) → HasRoom writer.old (200 + more) → HasRoom writer.new more }
 {
@@ -155,14 +147,12 @@ fn put_line(
 
 impl Rebuild {
     ghost use Rattle.std.specs.Prelude.{[], ◌∷◌};
+    ghost use Rattle.script_rebuild.specs.Names.{with_debt, no_segments};
     ghost use Rattle.trace_io.specs.Bytes.{TakesSome};
-    ghost use Rattle.trace_stream.specs.Debt.{with_debt};
     ghost use Rattle.script_rebuild.specs.Rebuilt.{routed_so_far, routed_script};
     ghost use Rattle.port_formatter.specs.Formatter as formatters;
-    ghost use Rattle.port_formatter.specs.Segments.{no_segments};
     ghost use Rattle.script_rebuild.specs.Rebuilder.{told, plan_of, taken_by, debt_of, open_len, IsLive, Reads, Stands};
     ghost use Rattle.script_rebuild.specs.Rebuilder.{HasEnded, TakesByte, IsOpen, Feeds};
-    ghost use Rattle.script_rebuild.specs.PutLine.{SaysLine};
 
     /// Nothing is read yet, and no funnel is before the port.
     pub fn new(plan: RebuildPlan) -> Rebuild
@@ -241,10 +231,8 @@ impl Rebuild {
     /// Whether what the open line says can be put, if it is the last.
     fn last_fits(&self) -> Result<(), LineFault>
         ensures few { open_len self.now ≤ 256 }
-        ensures ok { (lines : List Line2) → StandsForLines self.now.writer (port_of self.now.plan) lines →
-            OnOk result (SaysLine (says_placed self.now.plan self.now.version lines self.now.line.items)) }
-        ensures err { (lines : List Line2) → StandsForLines self.now.writer (port_of self.now.plan) lines →
-            IfErr result (λ fault. says_placed self.now.plan self.now.version lines self.now.line.items ≡ Err fault) }
+        ensures said { (lines : List Line2) → StandsForLines self.now.writer (port_of self.now.plan) lines →
+            AnswersTo (says_placed self.now.plan self.now.version lines self.now.line.items) result }
     {
         let line = read_line(&self.plan.plan, self.version, self.line.as_slice())?;
         self.writer.fits(&line)
@@ -319,31 +307,13 @@ impl Rebuild {
             append(&mut text, self.line.as_slice());
             self.end_line(text.as_slice(), &None, outlet)
         } else {
-            self.refuse_line(byte)
+            self.count += 1;
+            self.fault = Some(ScriptFault {
+                line: self.lines + 1,
+                fault: LineFault::LongLine,
+            });
+            true
         }
-    }
-
-    /// The line is too long with this byte, which is its fault.
-    fn refuse_line(&mut self, byte: u8) -> bool
-        requires live { IsLive self.old }
-        requires paid { debt_of_writer self.old.writer ≡ Paid }
-        requires full { open_len self.old ≡ 256 }
-        requires other { byte ≢ 10 }
-        requires count { taken_by self.old < GREATEST_CAPTURE }
-        ensures same { plan_of self.new ≡ plan_of self.old }
-        ensures count { taken_by self.new ≡ taken_by self.old + 1 }
-        ensures taken { (seen : List ℕ) (outlet : List ℕ) → Reads self.old seen →
-            TakesByte self.old self.new seen byte outlet outlet }
-        ensures reading { self.new.owed ≡ None }
-        ensures fault { result ≡ is_some self.new.fault }
-    {
-        self.count += 1;
-        self.fault = Some(ScriptFault {
-            line: self.lines + 1,
-            fault: LineFault::LongLine,
-        });
-        let _last = byte;
-        true
     }
 
     /// A line of this text is at its end: what it says is put, or its fault is kept. Answers whether it has one.

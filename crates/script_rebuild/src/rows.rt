@@ -1,24 +1,17 @@
 //! Worked rows of what lines put, which the checker computes.
 
 ghost use Rattle.std.specs.Prelude.{◌≡◌, [], ◌∷◌, ◌++◌, codes, Ok, Err, None, Some};
-ghost use Rattle.frame_grammar.specs.Rows.{hex};
+ghost use Rattle.script_rebuild.specs.Names.{hex, Natural, Async, Version, at, byte_at, of_source, written_segments};
+ghost use Rattle.script_rebuild.specs.Names.{Stp, Raw, Nothing, Of, One as OneLine, Flush, Trigger, BadLine, Mixed};
+ghost use Rattle.script_rebuild.specs.Names.{Unfit, Unrouted, both};
 ghost use Rattle.stp_grammar.specs.declared.packet.Order.TheVariants.{Msn};
-ghost use Rattle.stp_grammar.specs.declared.item.Stamp.TheVariants.{None as NoStamp, Natural};
-ghost use Rattle.stp_grammar.specs.declared.item.StpItem.TheVariants.{Async, Version};
-ghost use Rattle.stp_encoder.specs.Rows.{at, byte_at};
+ghost use Rattle.stp_grammar.specs.declared.item.Stamp.TheVariants.{None as NoStamp};
 ghost use Rattle.stp_encoder.specs.Puts.{Of as PutOf, Flush as FlushPut};
-ghost use Rattle.frame_writer.specs.Rows.{of_source};
-ghost use Rattle.frame_writer.specs.Written.{written_segments};
-ghost use Rattle.script_text.specs.declared.items.Item.TheVariants.{Stp, Raw};
-ghost use Rattle.script_text.specs.declared.lines.Line.TheVariants.{Nothing, Of};
-ghost use Rattle.script_text.specs.declared.version_two.Line2.TheVariants.{One as OneLine, Flush, Trigger};
-ghost use Rattle.script_text.specs.declared.line_fault.LineFault.TheVariants.{BadLine, Mixed, Unfit, Unrouted};
-ghost use Rattle.script_text.specs.Rows.{both};
 ghost use Rattle.script_rebuild.specs.Script.{given_bytes, given_puts, ends_with};
 ghost use Rattle.script_rebuild.specs.Segments.{segments_of, segments_with_ends, script_segments};
 ghost use Rattle.script_rebuild.specs.Versions.{fitting, script_of, read_texts};
-ghost use Rattle.script_rebuild.specs.Rows.{three_sources, kept_over_a_line, script, two_stp, flushed_lines};
-ghost use Rattle.script_rebuild.specs.Rows.{turns, reading, passed_row, written_row};
+ghost use Rattle.script_rebuild.specs.Rows.{three_sources, kept_over_a_line, script, two_stp, flushed_lines, turns};
+ghost use Rattle.script_rebuild.specs.Rows.{reading, passed_row, written_row};
 
 /// The bytes of each line are of its source, and an odd last nibble of the system trace is put at the end, with a NULL
 /// above it. The capture of them.

@@ -1,7 +1,6 @@
 //! The version of a script, which its first line tells.
 
-ghost use Rattle.std.specs.Prelude.{◌≡◌};
-ghost use Rattle.std.specs.Str.{bytes_eq};
+ghost use Rattle.std.specs.Prelude.{◌≡◌, bytes_eq};
 ghost use Rattle.script_rebuild.specs.Versions.{header, version_after};
 
 /// What is known of a script's version.

@@ -1,7 +1,6 @@
 //! The writer of lines.
 
-ghost use Rattle.std.specs.Prelude.{◌<◌};
-ghost use Rattle.std.specs.List.{All};
+ghost use Rattle.std.specs.Prelude.{◌<◌, All};
 
 use crate::bytes::{item_fits, put_item};
 use crate::encoders::{Encoders, encoders_for, put_kept};
@@ -26,9 +25,8 @@ pub struct LineWriter {
 
 ghost use Rattle.std.specs.Prelude.{◌≡◌, ◌≤◌, ◌+◌, ◌++◌, ◌∷◌, [], ℕ, List, length, true, false, None};
 ghost use Rattle.std.specs.Result.{IfOk, IfErr, OnErr};
+ghost use Rattle.script_rebuild.specs.Names.{has_place, Unrouted};
 ghost use Rattle.port_formatter.specs.Formatter as formatters;
-ghost use Rattle.port_formatter.specs.Port.{has_place};
-ghost use Rattle.script_text.specs.declared.line_fault.LineFault.TheVariants.{Unrouted};
 
 /// The trigger source, where it has a place.
 fn trigger_source(formatter: &Formatter) -> Result<SourceId, LineFault>
@@ -43,20 +41,14 @@ fn trigger_source(formatter: &Formatter) -> Result<SourceId, LineFault>
 }
 
 impl LineWriter {
-    ghost use Rattle.trace_values.specs.declared.limits.TheConstants.{COUNT_ROOM};
-    ghost use Rattle.port_formatter.specs.Port.{Port};
+    ghost use Rattle.script_rebuild.specs.Names.{COUNT_ROOM, Port, no_segments, Line2, One, Flush, Trigger, Paid};
+    ghost use Rattle.script_rebuild.specs.Names.{Pours, OUTLET_ROOM, ACTION_ROOM};
     ghost use Rattle.port_formatter.specs.declared.straight.TheConstants.{KEPT_ROOM};
-    ghost use Rattle.port_formatter.specs.Segments.{no_segments};
-    ghost use Rattle.script_text.specs.declared.version_two.Line2.{Line2};
-    ghost use Rattle.script_text.specs.declared.version_two.Line2.TheVariants.{One, Flush, Trigger};
     ghost use Rattle.script_rebuild.specs.Routed.{puttable, line_if};
     ghost use Rattle.script_rebuild.specs.Script.{in_order};
     ghost use Rattle.script_rebuild.specs.PutLine.{PutsAfter, Flushes};
     ghost use Rattle.script_rebuild.specs.Writer.{stp_of, order_of, turns_of, kept_by, count_of, debt_of, HasRoom};
     ghost use Rattle.script_rebuild.specs.Writer.{CanBePut, CanBePut2, Stands};
-    ghost use Rattle.trace_stream.specs.Debt.{Paid, Pours};
-    ghost use Rattle.trace_stream.specs.declared.outlet.TheConstants.{OUTLET_ROOM};
-    ghost use Rattle.trace_stream.specs.declared.action.TheConstants.{ACTION_ROOM};
 
     /// A writer of no line, over a formatter that was given nothing. The items of system traces are those of the sources
     /// `stp`, and their numbers are written in this order of their nibbles.

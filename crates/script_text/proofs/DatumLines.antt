@@ -1,17 +1,12 @@
 -- Lines of data that are read from their bytes: their words, and what they say.
 use Rattle.std.proofs.Common.{◌≡◌, ℕ, ◌+◌, ◌-◌, ◌/◌, ◌<◌, ◌≤◌, ◌^◌, List, [], ◌∷◌, ◌++◌, length, take, drop, refl, sym}
-use Rattle.std.proofs.Common.{◌∙◌, ap, subst, arith, Bool, true, false, Some}
-use Rattle.std.specs.Prelude.{slice_index, codes, decimal, option_map}
+use Rattle.std.proofs.Common.{◌∙◌, ap, subst, arith, Bool, true, false, Some, slice_index, codes, decimal, option_map}
 use Rattle.std.specs.Str.Parse.{AllDigits}
+use Rattle.script_text.specs.Names.{Width, Stamp, StpItem, bits_of, width_text, mark_text}
 use Rattle.decimal_words.proofs.Numbers.{decimal_digits, names_number}
-use Rattle.stp_grammar.specs.declared.packet.Width.{Width}
 use Rattle.stp_grammar.specs.declared.packet.Width.TheVariants.{Four, Eight, Sixteen, ThirtyTwo, SixtyFour}
-use Rattle.stp_grammar.specs.declared.item.Stamp.{Stamp}
 use Rattle.stp_grammar.specs.declared.item.Stamp.TheVariants.{Natural}
-use Rattle.stp_grammar.specs.declared.item.StpItem.{StpItem}
 use Rattle.stp_grammar.specs.declared.item.StpItem.TheVariants as stp
-use Rattle.stp_grammar.specs.Proper.{bits_of}
-use Rattle.trace_text.specs.StpText.{width_text, mark_text}
 use Rattle.script_text.specs.declared.shapes.Shape.TheVariants as shapes
 use Rattle.script_text.specs.declared.stp_shapes.StpShape.TheVariants as stp_shapes
 use Rattle.script_text.specs.declared.items.Item.TheVariants as items

@@ -1,17 +1,17 @@
--- The table of hexadecimal digits holds what they say.
-use Rattle.std.proofs.Common.{◌≡◌, ℕ, zero, suc, ◌<◌, refl, ◌∙◌, ap, arith, Bool, true, false}
-use Rattle.std.specs.Prelude.{slice_index, ◌==◌, ◌&&◌, if◌then◌else◌}
+-- What is tested of small numbers, one by one; and the table of hexadecimal digits, which holds what they say.
+use Rattle.std.proofs.Common.{◌≡◌, ℕ, zero, suc, ◌<◌, refl, ◌∙◌, ap, arith, Bool, true, false, slice_index, ◌==◌, ◌&&◌}
+use Rattle.std.proofs.Common.{if◌then◌else◌}
 use Rattle.std.specs.Char.{is_ascii_hexdigit, digit_value}
 use Rattle.std.proofs.lemmas.Bool.Decides.{nat_tests}
 use Rattle.script_text.specs.declared.numbers.TheConstants.{DIGITS}
 use Rattle.script_text.proofs.Hexadecimals.{and_left, and_right}
 
 -- this is so of all numbers below n
-below : (ℕ → Bool) → ℕ → Bool
+unfoldable pub below : (ℕ → Bool) → ℕ → Bool
 below test zero = true
 below test (suc n) = test n && below test n
 
-below_holds : (test : ℕ → Bool) (n b : ℕ) → below test n ≡ true → b < n → test b ≡ true
+pub below_holds : (test : ℕ → Bool) (n b : ℕ) → below test n ≡ true → b < n → test b ≡ true
 unfolding below
 below_holds test zero b h less = absurd (omega arith)
 below_holds test (suc n) b h less = by (b == n) refl (λ less. below_holds test n b (and_right (test n) (below test n) h) less)

@@ -1,19 +1,16 @@
 -- What words say is in the ranges of their fields (docs/formats.md, 'Scripts').
 use Rattle.std.proofs.Common.{◌≡◌, ℕ, suc, ◌*◌, ◌<◌, ◌≤◌, ◌^◌, List, [], ◌∷◌, length, refl, sym, subst, ap, arith, Bool}
-use Rattle.std.proofs.Common.{true, false, Some, None, Option, Ok, Err, Result}
-use Rattle.std.specs.Prelude.{◌==◌, ◌||◌, nat_lt, option_map, codes, if◌then◌else◌}
+use Rattle.std.proofs.Common.{true, false, Some, None, Option, Ok, Err, Result, ◌==◌, ◌||◌, nat_lt, option_map, codes}
+use Rattle.std.proofs.Common.{if◌then◌else◌, bytes_eq}
 use Rattle.std.specs.List.{AllPass}
 use Rattle.std.specs.Option.{option_map_or}
-use Rattle.std.specs.Str.{bytes_eq}
 use Rattle.std.proofs.lemmas.Bool.Decides.{nat_tests}
-use Rattle.hex.specs.Hex.{decode_of, is_hex_digit, IsBytes}
+use Rattle.hex.specs.Hex.{decode_of, is_hex_digit}
 use Rattle.hex.specs.declared.error.FromHexError.{FromHexError}
 use Rattle.hex.proofs.HexLemmas.{decode_of-ok}
+use Rattle.script_text.specs.Names.{IsProperStamp, Stamp, number_named, text_after}
 use Rattle.trace_clock.specs.LastWord.{nibble_count}
-use Rattle.stp_grammar.specs.Proper.{IsProperStamp}
-use Rattle.stp_grammar.specs.declared.item.Stamp.{Stamp}
 use Rattle.stp_grammar.specs.declared.item.Stamp.TheVariants.{None as NoStamp, Natural, Gray, Raw}
-use Rattle.decimal_words.specs.Numbers.{number_named, text_after}
 use Rattle.decimal_words.proofs.Numbers.{number_is}
 use Rattle.script_text.specs.Words.{word_of}
 use Rattle.script_text.specs.Numbers.{hexadecimal_named}
@@ -91,13 +88,14 @@ pub decoded_ok : (r : Result (List ℕ) FromHexError) (bytes : List ℕ) → dec
 decoded_ok (Ok x) bytes e = let same : x ≡ bytes = cc in ap Ok same
 decoded_ok (Err x) bytes e = cc
 
-pub bytes_said : (text bytes : List ℕ) → bytes_named text ≡ Some bytes → (1 ≤ length bytes) × (length bytes ≤ 100)
-    × IsBytes bytes
-bytes_said text bytes e = by (nat_lt (length text) 2) (nat_lt 200 (length text)) refl refl e
+-- what bytes are read of: so many digits, which say 1 to 100 bytes
+pub bytes_are : (text bytes : List ℕ) → bytes_named text ≡ Some bytes →
+    ((2 ≤ length text) × AllPass is_hex_digit text) × Fits Bytes bytes
+bytes_are text bytes e = by (nat_lt (length text) 2) (nat_lt 200 (length text)) refl refl e
   where
     by : (v w : Bool) → nat_lt (length text) 2 ≡ v → nat_lt 200 (length text) ≡ w →
-        (if v || w then None else decoded (decode_of text)) ≡ Some bytes → (1 ≤ length bytes) × (length bytes ≤ 100)
-        × IsBytes bytes
+        (if v || w then None else decoded (decode_of text)) ≡ Some bytes →
+        ((2 ≤ length text) × AllPass is_hex_digit text) × Fits Bytes bytes
     by true w a b e = cc
     by false true a b e = cc
     by false false a b e =
@@ -105,19 +103,7 @@ bytes_said text bytes e = by (nat_lt (length text) 2) (nat_lt 200 (length text))
         let len : length text ≡ 2 * length bytes = d.2 in
         let low : 2 ≤ length text = grind (arith, nat_tests) in
         let high : length text ≤ 200 = grind (arith, nat_tests) in
-        (omega arith, omega arith, d.3)
-
--- what is read is digits
-pub bytes_are : (text bytes : List ℕ) → bytes_named text ≡ Some bytes → (2 ≤ length text) × AllPass is_hex_digit text
-bytes_are text bytes e = by (nat_lt (length text) 2) (nat_lt 200 (length text)) refl e
-  where
-    by : (v w : Bool) → nat_lt (length text) 2 ≡ v → (if v || w then None else decoded (decode_of text)) ≡ Some bytes →
-        (2 ≤ length text) × AllPass is_hex_digit text
-    by true w a e = cc
-    by false true a e = cc
-    by false false a e =
-        let d = decode_of-ok text bytes (decoded_ok (decode_of text) bytes e) in
-        (grind (arith, nat_tests), d.1)
+        ((low, d.1), (omega arith, omega arith, d.3))
 
 -- each kind of field
 pub value_fits : (kind : Kind) (word : List ℕ) (value : Value kind) → value_of kind word ≡ Some value → Fits kind value
@@ -131,7 +117,7 @@ value_fits (Known most) word n e =
     )
 value_fits (Digits count) word n e = hexadecimal_small count word n e
 value_fits Time word stamp e = stamp_said word stamp e
-value_fits Bytes word bytes e = bytes_said word bytes e
+value_fits Bytes word bytes e = (bytes_are word bytes e).1
 
 -- and of all fields
 pub values_fit : (fields : List Field) (k : ℕ) (words : List (List ℕ)) (values : Values fields) →

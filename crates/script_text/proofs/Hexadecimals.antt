@@ -1,7 +1,8 @@
 -- Hexadecimal digits, and the numbers that they say.
-use Rattle.std.proofs.Common.{◌≡◌, take, get_or, ℕ, ◌+◌, ◌*◌, ◌<◌, ◌≤◌, ◌^◌, List, [], ◌∷◌, length, refl, sym, ◌∙◌, ap, subst, arith, Bool, true, false, Some, None, Option}
+use Rattle.std.proofs.Common.{◌≡◌, take, get_or, ℕ, ◌+◌, ◌*◌, ◌<◌, ◌≤◌, ◌^◌, List, [], ◌∷◌, length, refl, sym, ◌∙◌, ap}
+use Rattle.std.proofs.Common.{subst, arith, Bool, true, false, Some, None, Option, ◌==◌, ◌&&◌, nat_lt, ◌%◌}
+use Rattle.std.proofs.Common.{if◌then◌else◌, IfSome}
 use Rattle.std.proofs.Math.Nat.{pow-le-pow_right}
-use Rattle.std.specs.Prelude.{◌==◌, ◌&&◌, nat_lt, ◌%◌, if◌then◌else◌, IfSome}
 use Rattle.std.specs.List.{list_all}
 use Rattle.std.specs.Char.{is_ascii_hexdigit, digit_value}
 use Rattle.std.specs.Str.Parse.{digits_value, AllDigits}
@@ -11,7 +12,7 @@ use Rattle.std.proofs.lemmas.List.{take_more, length-take-le}
 use Rattle.std.proofs.lemmas.List.Folds.{list_all-append}
 use Rattle.script_text.specs.Numbers.{hexadecimal_named}
 
-digit_small : (c : ℕ) → is_ascii_hexdigit c ≡ true → digit_value c < 16
+pub digit_small : (c : ℕ) → is_ascii_hexdigit c ≡ true → digit_value c < 16
 digit_small c h = grind (arith, nat_tests)
 
 pub and_left : (a b : Bool) → (a && b) ≡ true → a ≡ true
@@ -26,7 +27,7 @@ pub both : (a b : Bool) → a ≡ true → b ≡ true → (a && b) ≡ true
 both true b p q = q
 both false b p q = cc
 
-and_last : (a : Bool) → (a && true) ≡ a
+pub and_last : (a : Bool) → (a && true) ≡ a
 and_last true = refl
 and_last false = refl
 

@@ -1,13 +1,9 @@
 -- What lines say can be said.
 use Rattle.std.proofs.Common.{◌≡◌, ℕ, List, [], ◌∷◌, refl, sym, ◌∙◌, ap, subst, Bool, true, false, Some, None, Option}
-use Rattle.std.proofs.Common.{Ok, Err, Result}
-use Rattle.std.specs.Prelude.{◌==◌, ok_or, IfOk, OnOk, if◌then◌else◌}
-use Rattle.decimal_words.specs.Numbers.{number_named}
+use Rattle.std.proofs.Common.{Ok, Err, Result, ◌==◌, ok_or, IfOk, OnOk, if◌then◌else◌}
+use Rattle.script_text.specs.Names.{number_named, Plan, SourceKind, kind_of}
 use Rattle.decimal_words.proofs.Numbers.{number_is}
-use Rattle.source_events.specs.declared.plan.Plan.{Plan}
-use Rattle.source_events.specs.declared.plan.SourceKind.{SourceKind}
 use Rattle.source_events.specs.declared.plan.SourceKind.TheVariants as kinds
-use Rattle.source_events.specs.Plan.{kind_of}
 use Rattle.script_text.specs.declared.shapes.Shape.{Shape}
 use Rattle.script_text.specs.declared.shapes.Shape.TheVariants.{Itm, Dwt, Stp, Raw}
 use Rattle.script_text.specs.declared.items.Item.{Item}
@@ -40,13 +36,11 @@ ok_of x y e = cc
 
 by_itm_is : (kind : Option SourceKind) (given line : Line) → by_itm kind given ≡ Ok line → given ≡ line
 by_itm_is (Some kinds.Itm) given line e = ok_of given line e
-by_itm_is (Some kinds.Stp) given line e = cc
-by_itm_is None given line e = cc
+by_itm_is kind given line e = cc
 
 by_stp_is : (kind : Option SourceKind) (given line : Line) → by_stp kind given ≡ Ok line → given ≡ line
-by_stp_is (Some kinds.Itm) given line e = cc
 by_stp_is (Some kinds.Stp) given line e = ok_of given line e
-by_stp_is None given line e = cc
+by_stp_is kind given line e = cc
 
 by_raw_is : (kind : Option SourceKind) (id : ℕ) (given line : Line) → by_raw kind id given ≡ Ok line → given ≡ line
 by_raw_is (Some kind) id given line e = cc
@@ -58,10 +52,9 @@ by_raw_is None id given line e = by (id == 125) e
 
 pub taken_is : (kind : Option SourceKind) (id : ℕ) (item : Item) (line : Line) → taken_by kind id item ≡ Ok line →
     Of id item ≡ line
-taken_is kind id (items.Itm p) line e = by_itm_is kind (Of id (items.Itm p)) line e
-taken_is kind id (items.Dwt d) line e = by_itm_is kind (Of id (items.Dwt d)) line e
 taken_is kind id (items.Stp s) line e = by_stp_is kind (Of id (items.Stp s)) line e
 taken_is kind id (items.Raw bytes) line e = by_raw_is kind id (Of id (items.Raw bytes)) line e
+taken_is kind id item line e = by_itm_is kind (Of id item) line e
 
 bind_ok : {A B : Type 0} (o : Option A) (f : LineFault) (g : A → Result B LineFault) (y : B) →
     (ok_or o f >>ₗ g) ≡ Ok y → (x : A) × (o ≡ Some x) × (g x ≡ Ok y)

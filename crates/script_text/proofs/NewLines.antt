@@ -1,10 +1,9 @@
 -- The lines of version 2 beside those of version 1.
-use Rattle.std.proofs.Common.{◌≡◌, ℕ, suc, arith, List, [], ◌∷◌, length, refl, sym, ◌∙◌, ap, subst, Bool, true, false, nat_lt, Result, Ok, Err}
-use Rattle.std.specs.Prelude.{◌==◌, ◌&&◌, if◌then◌else◌, codes, IfOk}
-use Rattle.std.specs.Str.{bytes_eq}
+use Rattle.std.proofs.Common.{◌≡◌, ℕ, suc, arith, List, [], ◌∷◌, length, refl, sym, ◌∙◌, ap, subst, Bool, true, false}
+use Rattle.std.proofs.Common.{nat_lt, Result, Ok, Err, ◌==◌, ◌&&◌, if◌then◌else◌, codes, IfOk, bytes_eq}
 use Rattle.std.proofs.lemmas.Slice.Eq.{bytes_eq-Decides}
 use Rattle.std.proofs.lemmas.Bool.Decides.{nat_tests}
-use Rattle.source_events.specs.declared.plan.Plan.{Plan}
+use Rattle.script_text.specs.Names.{Plan}
 use Rattle.script_text.specs.declared.lines.Line.{Line}
 use Rattle.script_text.specs.declared.lines.Line.TheVariants.{Nothing}
 use Rattle.script_text.specs.declared.version_two.Line2.{Line2}
@@ -14,7 +13,8 @@ use Rattle.script_text.specs.declared.line_fault.LineFault.TheVariants.{LongLine
 use Rattle.script_text.specs.Words.{are_printable, words_in, are_words}
 use Rattle.script_text.specs.Shapes.{shape_named}
 use Rattle.script_text.specs.Lines.{line_of_words, line_of, is_nothing}
-use Rattle.script_text.specs.VersionTwo.{flush_line, is_trigger, trigger_said, trigger_of, as_one, line2_of, IsSaid2, IsNew}
+use Rattle.script_text.specs.VersionTwo.{flush_line, is_trigger, trigger_said, trigger_of, as_one, line2_of, IsSaid2}
+use Rattle.script_text.specs.VersionTwo.{IsNew}
 
 -- a line of version 1, by the tests on it: too long, empty or a remark, printable, of words; and what the words say
 abbrev one_by : Bool → Bool → Bool → Bool → Result Line LineFault → Result Line LineFault
@@ -62,14 +62,12 @@ too_many n v h = grind (arith, nat_tests)
 -- the words of a trigger are those of no line of version 1
 trigger_bad : (plan : Plan) (words : List (List ℕ)) → is_trigger words ≡ true → line_of_words plan words ≡ Err BadLine
 unfolding line_of_words shape_named
-trigger_bad plan [] h = cc
-trigger_bad plan (id ∷ []) h = cc
-trigger_bad plan (id ∷ (word ∷ [])) h = cc
 trigger_bad plan (id ∷ (word ∷ (code ∷ []))) h =
     subst (λ (w : List ℕ). line_of_words plan (id ∷ (w ∷ (code ∷ []))) ≡ Err BadLine)
     ((bytes_eq-Decides (codes "trigger") word).0 h) refl
 trigger_bad plan (id ∷ (word ∷ (code ∷ (more ∷ words)))) h =
     absurd (too_many (length words) (bytes_eq (codes "trigger") word) h)
+trigger_bad plan words h = cc
 
 -- `flush` is no line of version 1
 flush_bad : (plan : Plan) (line : List ℕ) → bytes_eq flush_line line ≡ true → line_of plan line ≡ Err BadLine

@@ -1,6 +1,5 @@
 -- Values that are there.
-use Rattle.std.proofs.Common.{◌≡◌, refl, Bool, true, false, Some, None, Option}
-use Rattle.std.specs.Prelude.{option_map, if◌then◌else◌}
+use Rattle.std.proofs.Common.{◌≡◌, refl, Bool, true, false, Some, None, Option, option_map, if◌then◌else◌}
 use Rattle.script_text.specs.Steps.{◌>>=◌}
 
 -- what is made of a value that is there

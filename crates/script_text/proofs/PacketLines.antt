@@ -1,8 +1,8 @@
 -- Lines that are read from their bytes: their words, and what they say.
 use Rattle.std.proofs.Common.{◌≡◌, ℕ, zero, suc, append_assoc, length-append, ◌+◌, ◌-◌, ◌*◌, ◌<◌, ◌≤◌, ◌^◌, List, []}
 use Rattle.std.proofs.Common.{◌∷◌, ◌++◌, length, take, drop, refl, sym, ◌∙◌, ap, subst, arith, Bool, true, false, Some}
-use Rattle.std.proofs.Common.{None, Option, Ok, Err, Result}
-use Rattle.std.specs.Prelude.{slice_index, ◌==◌, nat_lt, nat_le, codes, decimal, ok_or, OnOk, if◌then◌else◌}
+use Rattle.std.proofs.Common.{None, Option, Ok, Err, Result, slice_index, ◌==◌, nat_lt, nat_le, codes, decimal, ok_or}
+use Rattle.std.proofs.Common.{OnOk, if◌then◌else◌}
 use Rattle.std.specs.List.{list_all, AllPass}
 use Rattle.std.proofs.lemmas.List.Elements.{All-head, All-tail}
 use Rattle.hex.specs.Hex.{is_hex_digit}
@@ -10,15 +10,11 @@ use Rattle.std.specs.Char.{digit_value}
 use Rattle.std.specs.Str.Parse.{AllDigits}
 use Rattle.std.proofs.lemmas.Bool.Decides.{nat_tests}
 use Rattle.std.proofs.lemmas.Str.{digit_value_digit}
-use Rattle.decimal_words.specs.Numbers.{number_named}
+use Rattle.script_text.specs.Names.{number_named, byte_count, Size, Plan, kind_of}
 use Rattle.decimal_words.proofs.Numbers.{is_decimal, decimal_digits, decimal_has, names_number}
-use Rattle.itm_grammar.specs.Spelling.{byte_count}
-use Rattle.itm_grammar.specs.declared.packet.Size.{Size}
 use Rattle.itm_grammar.specs.declared.packet.Size.TheVariants.{One, Two, Four}
 use Rattle.itm_grammar.specs.declared.packet.Lateness.TheVariants.{Exact}
 use Rattle.itm_grammar.specs.declared.packet.ItmPacket.TheVariants as itm
-use Rattle.source_events.specs.declared.plan.Plan.{Plan}
-use Rattle.source_events.specs.Plan.{kind_of}
 use Rattle.script_text.specs.declared.shapes.Shape.{Shape}
 use Rattle.script_text.specs.declared.shapes.Shape.TheVariants as shapes
 use Rattle.script_text.specs.declared.itm_shapes.ItmShape.TheVariants as itm_shapes
@@ -266,7 +262,7 @@ raw_shape digits = refl
 pub raw_says : (line digits bytes : List ℕ) → line ≡ codes "raw " ++ digits → bytes_named digits ≡ Some bytes →
     SaysItem line (items.Raw bytes)
 raw_says line digits bytes is e =
-    let named = bytes_are digits bytes e in
+    let named = (bytes_are digits bytes e).0 in
     let word = graphic_word digits (omega (arith, named.0)) (hex_graphic digits named.1) in
     subst (λ (line : List ℕ). SaysItem line (items.Raw bytes)) (sym is)
     (joined_says (codes "raw" ∷ (digits ∷ [])) shapes.Raw (items.Raw bytes) (omega arith) (omega arith)

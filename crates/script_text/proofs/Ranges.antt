@@ -1,26 +1,18 @@
 -- The items of words have their numbers in their ranges.
 use Rattle.std.proofs.Common.{◌≡◌, ℕ, ◌+◌, ◌-◌, ◌*◌, ◌/◌, ◌<◌, ◌≤◌, ◌^◌, List, refl, subst, arith, Bool, true, false}
-use Rattle.std.proofs.Common.{Some, Option}
-use Rattle.std.specs.Prelude.{◌==◌, nat_le}
+use Rattle.std.proofs.Common.{Some, Option, ◌==◌, nat_le}
 use Rattle.std.specs.Option.{ForSome}
 use Rattle.std.proofs.lemmas.Bool.Decides.{nat_tests}
-use Rattle.itm_grammar.specs.Proper.{IsProper, first_bits, second_bits}
-use Rattle.itm_grammar.specs.Spelling.{byte_count}
-use Rattle.itm_grammar.specs.declared.packet.Size.{Size}
+use Rattle.script_text.specs.Names.{IsProper, first_bits, second_bits, byte_count, Size, ItmPacket, IsInRange, DwtItem}
+use Rattle.script_text.specs.Names.{bits_of, IsProperStamp, IsProperItem, Width, Stamp, StpItem}
 use Rattle.itm_grammar.specs.declared.packet.Size.TheVariants.{One}
-use Rattle.itm_grammar.specs.declared.packet.ItmPacket.{ItmPacket}
 use Rattle.itm_grammar.specs.declared.packet.ItmPacket.TheVariants as itm
-use Rattle.dwt_packets.specs.Packet.{IsInRange, IsProperItem as IsProperDwt}
+use Rattle.dwt_packets.specs.Packet.{IsProperItem as IsProperDwt}
 use Rattle.dwt_packets.specs.Table.{name}
-use Rattle.dwt_packets.specs.declared.item.DwtItem.{DwtItem}
 use Rattle.dwt_packets.specs.declared.item.DwtItem.TheVariants as dwt
 use Rattle.dwt_packets.proofs.Inverses.{proper}
-use Rattle.stp_grammar.specs.Proper.{bits_of, IsProperStamp, IsProperItem}
-use Rattle.stp_grammar.specs.declared.packet.Width.{Width}
 use Rattle.stp_grammar.specs.declared.packet.Width.TheVariants as widths
-use Rattle.stp_grammar.specs.declared.item.Stamp.{Stamp}
 use Rattle.stp_grammar.specs.declared.item.Stamp.TheVariants.{None as NoStamp, Natural, Gray, Raw}
-use Rattle.stp_grammar.specs.declared.item.StpItem.{StpItem}
 use Rattle.stp_grammar.specs.declared.item.StpItem.TheVariants as stp
 use Rattle.script_text.specs.declared.itm_shapes.ItmShape.{ItmShape}
 use Rattle.script_text.specs.declared.itm_shapes.ItmShape.TheVariants.{Sync, Overflow, Software, Local, GlobalFirst}

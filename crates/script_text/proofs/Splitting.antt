@@ -1,10 +1,11 @@
 -- The words of a line, one by one.
 use Rattle.std.proofs.Math.Seq.{take-length}
-use Rattle.std.proofs.Common.{length-drop, ◌-◌, ◌≡◌, ℕ, zero, suc, ◌+◌, ◌<◌, List, [], ◌∷◌, length, take, drop, refl, sym, ◌∙◌, ap, arith, Bool, true, false, nat_lt}
-use Rattle.std.specs.Prelude.{◌==◌, ◌&&◌, nat_le, slice_index}
+use Rattle.std.proofs.Common.{length-drop, ◌-◌, ◌≡◌, ℕ, zero, suc, ◌+◌, ◌<◌, List, [], ◌∷◌, length, take, drop, refl}
+use Rattle.std.proofs.Common.{sym, ◌∙◌, ap, arith, Bool, true, false, nat_lt, ◌==◌, ◌&&◌, nat_le, slice_index}
 use Rattle.std.specs.List.{prefix_len}
 use Rattle.std.proofs.lemmas.Bool.Decides.{nat_tests}
 use Rattle.script_text.specs.Words.{is_graphic, are_printable, words_in, are_words}
+use Rattle.script_text.proofs.Hexadecimals.{and_last}
 
 pub no_space : (b : ℕ) → is_graphic b ≡ true → (b == 32) ≡ false
 no_space b h = grind (arith, nat_tests)
@@ -88,10 +89,6 @@ and_false : (a b : Bool) → a ≡ false → (a && b) ≡ false
 and_false true b e = cc
 and_false false b e = refl
 
-and_last : (a : Bool) → a ≡ (a && true)
-and_last true = refl
-and_last false = refl
-
 and_swap : (p a r : Bool) → a ≡ true → (p && r) ≡ (p && (a && r))
 and_swap p true r e = refl
 and_swap p false r e = cc
@@ -99,7 +96,7 @@ and_swap p false r e = cc
 -- what is told of a line that is one word
 pub whole_told : (n : ℕ) (line : List ℕ) (v : Bool) → IsWord line → v ≡ (nat_lt 0 (length line) && nat_lt n 8) → v ≡ (are_printable line && are_words n (words_in line))
 whole_told n line v w told =
-    told ∙ and_last (nat_lt 0 (length line) && nat_lt n 8) ∙ ap (are_words n) (sym w.one) ∙ sym (and_true (are_printable line) (are_words n (words_in line)) w.printable)
+    told ∙ sym (and_last (nat_lt 0 (length line) && nat_lt n 8)) ∙ ap (are_words n) (sym w.one) ∙ sym (and_true (are_printable line) (are_words n (words_in line)) w.printable)
 
 -- and of others
 pub cut_told : (n m : ℕ) (line rest word : List ℕ) (v : Bool) → are_printable line ≡ are_printable rest → words_in line ≡ word ∷ words_in rest →

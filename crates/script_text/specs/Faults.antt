@@ -1,8 +1,8 @@
 -- The numbers and names of what is wrong with lines.
 use Rattle.std.specs.Prelude.{ℕ, List, codes}
 use Rattle.script_text.specs.declared.line_fault.LineFault.{LineFault}
-use Rattle.script_text.specs.declared.line_fault.LineFault.TheVariants.{LongLine, BadLine, BadId, BadNumber}
-use Rattle.script_text.specs.declared.line_fault.LineFault.TheVariants.{Unmapped, Mixed, Unfit, Unrouted}
+use Rattle.script_text.specs.declared.line_fault.LineFault.TheVariants.{LongLine, BadLine, BadId, BadNumber, Unmapped}
+use Rattle.script_text.specs.declared.line_fault.LineFault.TheVariants.{Mixed, Unfit, Unrouted}
 
 abbrev pub number_of : LineFault → ℕ
 number_of LongLine = 1

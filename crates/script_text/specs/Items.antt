@@ -1,8 +1,6 @@
 -- The items of words, by the table.
 use Rattle.std.specs.Prelude.{ℕ, List, Option, option_map}
-use Rattle.itm_grammar.specs.declared.packet.ItmPacket.{ItmPacket}
-use Rattle.dwt_packets.specs.declared.item.DwtItem.{DwtItem}
-use Rattle.stp_grammar.specs.declared.item.StpItem.{StpItem}
+use Rattle.script_text.specs.Names.{ItmPacket, DwtItem, StpItem}
 use Rattle.script_text.specs.declared.shapes.Shape.{Shape}
 use Rattle.script_text.specs.declared.shapes.Shape.TheVariants.{Itm, Dwt, Stp, Raw}
 use Rattle.script_text.specs.declared.itm_shapes.ItmShape.{ItmShape}

@@ -1,19 +1,16 @@
 -- The lines of scripts (this project's profile).
-use Rattle.std.specs.Prelude.{ℕ, List, [], ◌∷◌, length, Bool, true, ◌==◌, nat_lt, if◌then◌else◌}
-use Rattle.std.specs.Prelude.{Option, Some, None, Result, Ok, Err, ok_or}
-use Rattle.decimal_words.specs.Numbers.{number_named}
-use Rattle.source_events.specs.declared.plan.Plan.{Plan}
-use Rattle.source_events.specs.declared.plan.SourceKind.{SourceKind}
+use Rattle.std.specs.Prelude.{ℕ, List, [], ◌∷◌, length, Bool, true, ◌==◌, nat_lt, if◌then◌else◌, Option, Some, None}
+use Rattle.std.specs.Prelude.{Result, Ok, Err, ok_or}
+use Rattle.script_text.specs.Names.{number_named, Plan, SourceKind, kind_of}
 use Rattle.source_events.specs.declared.plan.SourceKind.TheVariants as kinds
-use Rattle.source_events.specs.Plan.{kind_of}
 use Rattle.script_text.specs.declared.shapes.Shape.{Shape}
 use Rattle.script_text.specs.declared.items.Item.{Item}
 use Rattle.script_text.specs.declared.items.Item.TheVariants as items
 use Rattle.script_text.specs.declared.lines.Line.{Line}
 use Rattle.script_text.specs.declared.lines.Line.TheVariants.{Nothing, Of}
 use Rattle.script_text.specs.declared.line_fault.LineFault.{LineFault}
-use Rattle.script_text.specs.declared.line_fault.LineFault.TheVariants.{LongLine, BadLine, BadId, BadNumber}
-use Rattle.script_text.specs.declared.line_fault.LineFault.TheVariants.{Unmapped, Mixed}
+use Rattle.script_text.specs.declared.line_fault.LineFault.TheVariants.{LongLine, BadLine, BadId, BadNumber, Unmapped}
+use Rattle.script_text.specs.declared.line_fault.LineFault.TheVariants.{Mixed}
 use Rattle.script_text.specs.Words.{are_printable, words_in, are_words}
 use Rattle.script_text.specs.Shapes.{shape_named}
 use Rattle.script_text.specs.Items.{item_of}

@@ -3,7 +3,7 @@ use Rattle.std.specs.Prelude.{ℕ, ◌==◌, ◌&&◌, List, length, Option, Som
 use Rattle.std.specs.List.{list_all}
 use Rattle.std.specs.Char.{is_ascii_hexdigit}
 use Rattle.std.specs.Str.Parse.{digits_value}
-use Rattle.decimal_words.specs.Numbers.{number_named}
+use Rattle.script_text.specs.Names.{number_named}
 use Rattle.script_text.specs.Words.{word_of}
 
 -- the number of exactly this many hexadecimal digits, in either case, most significant first

@@ -1,11 +1,7 @@
 -- Lines that are read from their bytes: the words at the front of a line, its last word, and what such a line says.
 use Rattle.std.specs.Prelude.{◌≡◌, ◌≤◌, ℕ, List, ◌∷◌, ◌++◌, length, true, false, decimal, ok_or, Some}
 use Rattle.std.specs.List.{list_all}
-use Rattle.decimal_words.specs.Numbers.{number_named}
-use Rattle.itm_grammar.specs.declared.packet.ItmPacket.{ItmPacket}
-use Rattle.source_events.specs.declared.plan.Plan.{Plan}
-use Rattle.source_events.specs.Plan.{kind_of}
-use Rattle.stp_grammar.specs.declared.item.Stamp.{Stamp}
+use Rattle.script_text.specs.Names.{number_named, ItmPacket, Plan, kind_of, Stamp}
 use Rattle.script_text.specs.declared.items.Item.{Item}
 use Rattle.script_text.specs.declared.items.Item.TheVariants.{Itm}
 use Rattle.script_text.specs.declared.line_fault.LineFault.TheVariants.{BadId}

@@ -1,10 +1,9 @@
 -- A plan, for worked rows.
 use Rattle.std.specs.Prelude.{[], ◌∷◌, Some, ℕ}
+use Rattle.script_text.specs.Names.{Place, Plan}
 use Rattle.trace_values.specs.declared.reading_modes.FramesMode.TheVariants.{Hunt as FramesHunt}
 use Rattle.trace_values.specs.declared.reading_modes.PacketsMode.TheVariants.{Hunt as PacketsHunt}
 use Rattle.stp_grammar.specs.declared.packet.Order.TheVariants.{Msn}
-use Rattle.stp_grammar.specs.declared.item.Place.{Place}
-use Rattle.source_events.specs.declared.plan.Plan.{Plan}
 
 -- source 1 sends ITM packets, and source 2 STP packets
 abbrev pub both : Plan

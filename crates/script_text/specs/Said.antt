@@ -1,20 +1,13 @@
 -- What lines can say, and its text.
 use Rattle.std.specs.Prelude.{◌≡◌, ◌≤◌, ℕ, List, ◌++◌, length, codes, Ok, IsSome}
 use Rattle.hex.specs.Hex.{encode_lower, IsBytes}
-use Rattle.itm_grammar.specs.Proper.{IsProper}
-use Rattle.itm_grammar.specs.declared.packet.ItmPacket.{ItmPacket}
+use Rattle.script_text.specs.Names.{IsProper, ItmPacket, IsProperItem as IsProperStp, Place, StpItem, Plan, kind_of}
+use Rattle.script_text.specs.Names.{item_text, stp_text}
 use Rattle.itm_grammar.specs.declared.packet.ItmPacket.TheVariants.{Hardware}
 use Rattle.dwt_packets.specs.Packet.{IsProperItem as IsProperDwt}
-use Rattle.stp_grammar.specs.Proper.{IsProperItem as IsProperStp}
-use Rattle.stp_grammar.specs.declared.item.Place.{Place}
 use Rattle.stp_grammar.specs.declared.item.Stamp.TheVariants.{None as NoStamp}
-use Rattle.stp_grammar.specs.declared.item.StpItem.{StpItem}
 use Rattle.stp_grammar.specs.declared.item.StpItem.TheVariants.{MasterError, Datum, Flag, NullStamp}
-use Rattle.source_events.specs.declared.plan.Plan.{Plan}
-use Rattle.source_events.specs.Plan.{kind_of}
-use Rattle.trace_text.specs.ItemText.{item_text}
 use Rattle.trace_text.specs.HardwareText.{hardware_text}
-use Rattle.trace_text.specs.StpText.{stp_text}
 use Rattle.script_text.specs.declared.items.Item.{Item}
 use Rattle.script_text.specs.declared.items.Item.TheVariants.{Itm, Dwt, Stp, Raw}
 use Rattle.script_text.specs.declared.lines.Line.{Line}

@@ -1,11 +1,9 @@
 -- The timestamps of STP items.
-use Rattle.std.specs.Prelude.{ℕ, ◌-◌, ◌^◌, ◌==◌, nat_lt, List, length, codes, if◌then◌else◌}
-use Rattle.std.specs.Prelude.{Option, Some, None, option_map}
+use Rattle.std.specs.Prelude.{ℕ, ◌-◌, ◌^◌, ◌==◌, nat_lt, List, length, codes, if◌then◌else◌, Option, Some, None}
+use Rattle.std.specs.Prelude.{option_map, bytes_eq}
 use Rattle.std.specs.Option.{option_map_or}
-use Rattle.std.specs.Str.{bytes_eq}
-use Rattle.stp_grammar.specs.declared.item.Stamp.{Stamp}
+use Rattle.script_text.specs.Names.{Stamp, number_named, text_after}
 use Rattle.stp_grammar.specs.declared.item.Stamp.TheVariants.{None as NoStamp, Natural, Gray, Raw}
-use Rattle.decimal_words.specs.Numbers.{number_named, text_after}
 use Rattle.script_text.specs.Steps.{◌>>=◌}
 use Rattle.script_text.specs.Words.{word_of}
 use Rattle.script_text.specs.Numbers.{hexadecimal_named}

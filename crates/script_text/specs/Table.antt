@@ -1,32 +1,22 @@
 -- The table of items' texts (docs/formats.md, 'Scripts' and 'Texts'): for each shape a row, which is its first word,
 -- the fields after it with their ranges, and the item that their values make. A text is these words, joined by spaces;
 -- it is read word by word.
-use Rattle.std.specs.Prelude.{ℕ, suc, ◌*◌, ◌/◌, ◌-◌, ◌^◌, ◌<◌, ◌≤◌, List, [], ◌∷◌, length, codes, decimal}
-use Rattle.std.specs.Prelude.{Bool, not, ◌&&◌, ◌||◌, ◌==◌, nat_lt, nat_le, if◌then◌else◌}
-use Rattle.std.specs.Prelude.{Option, Some, None, option_map, IsSome}
+use Rattle.std.specs.Prelude.{ℕ, suc, ◌*◌, ◌/◌, ◌-◌, ◌^◌, ◌<◌, ◌≤◌, List, [], ◌∷◌, length, codes, decimal, Bool, not}
+use Rattle.std.specs.Prelude.{◌&&◌, ◌||◌, ◌==◌, nat_lt, nat_le, if◌then◌else◌, Option, Some, None, option_map, IsSome}
 use Rattle.std.specs.Option.{ForSome}
 use Rattle.hex.specs.Hex.{encode_lower, IsBytes}
-use Rattle.itm_grammar.specs.Proper.{first_bits, second_bits}
-use Rattle.itm_grammar.specs.Spelling.{byte_count}
-use Rattle.itm_grammar.specs.declared.packet.Size.{Size}
+use Rattle.script_text.specs.Names.{first_bits, second_bits, byte_count, Size, ItmPacket, DwtItem, bits_of}
+use Rattle.script_text.specs.Names.{IsProperStamp, Stamp, Place, StpItem, lateness_text, bits_text, owner_text}
+use Rattle.script_text.specs.Names.{known_text, width_text, mark_text, stamp_text, number_named}
 use Rattle.itm_grammar.specs.declared.packet.Size.TheVariants.{One, Two, Four as FourBytes}
-use Rattle.itm_grammar.specs.declared.packet.ItmPacket.{ItmPacket}
 use Rattle.itm_grammar.specs.declared.packet.ItmPacket.TheVariants as itm
-use Rattle.dwt_packets.specs.declared.item.DwtItem.{DwtItem}
 use Rattle.dwt_packets.specs.declared.item.DwtItem.TheVariants as dwt
 use Rattle.dwt_packets.specs.Table.{name}
 use Rattle.dwt_packets.specs.declared.item.Change.{Change}
 use Rattle.dwt_packets.specs.declared.item.Change.TheVariants.{Enter, Exit, Return}
-use Rattle.stp_grammar.specs.Proper.{bits_of, IsProperStamp}
-use Rattle.stp_grammar.specs.declared.item.Stamp.{Stamp}
 use Rattle.stp_grammar.specs.declared.item.Stamp.TheVariants.{None as NoStamp}
-use Rattle.stp_grammar.specs.declared.item.Place.{Place}
-use Rattle.stp_grammar.specs.declared.item.StpItem.{StpItem}
 use Rattle.stp_grammar.specs.declared.item.StpItem.TheVariants as stp
 use Rattle.trace_text.specs.HexDigits.{hex_digits}
-use Rattle.trace_text.specs.ItemText.{lateness_text, bits_text, owner_text}
-use Rattle.trace_text.specs.StpText.{known_text, width_text, mark_text, stamp_text}
-use Rattle.decimal_words.specs.Numbers.{number_named}
 use Rattle.script_text.specs.declared.shapes.Shape.{Shape}
 use Rattle.script_text.specs.declared.shapes.Shape.TheVariants.{Itm, Dwt, Stp, Raw}
 use Rattle.script_text.specs.declared.itm_shapes.ItmShape.{ItmShape}
@@ -36,8 +26,8 @@ use Rattle.script_text.specs.declared.dwt_shapes.DwtShape.{DwtShape}
 use Rattle.script_text.specs.declared.dwt_shapes.DwtShape.TheVariants.{Counters, Exception, Sample, Asleep, MatchPc}
 use Rattle.script_text.specs.declared.dwt_shapes.DwtShape.TheVariants.{MatchAddress, Read, Written, Other}
 use Rattle.script_text.specs.declared.stp_shapes.StpShape.{StpShape}
-use Rattle.script_text.specs.declared.stp_shapes.StpShape.TheVariants.{Async, Version, MasterError, GlobalError}
-use Rattle.script_text.specs.declared.stp_shapes.StpShape.TheVariants.{Datum, Flag, Trigger, Frequency, NullStamp}
+use Rattle.script_text.specs.declared.stp_shapes.StpShape.TheVariants.{Async, Version, MasterError, GlobalError, Datum}
+use Rattle.script_text.specs.declared.stp_shapes.StpShape.TheVariants.{Flag, Trigger, Frequency, NullStamp}
 use Rattle.script_text.specs.Steps.{◌>>=◌}
 use Rattle.script_text.specs.Words.{word_of}
 use Rattle.script_text.specs.Numbers.{hexadecimal_named}

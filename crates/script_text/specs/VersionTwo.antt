@@ -1,9 +1,7 @@
 -- The lines of scripts of version 2 (this project's profile): those of version 1, `flush`, and `125 trigger hh`.
-use Rattle.std.specs.Prelude.{ℕ, ◌<◌, List, length, Bool, ◌==◌, ◌&&◌, nat_lt, if◌then◌else◌, codes}
-use Rattle.std.specs.Prelude.{Result, Ok, Err, ok_or}
-use Rattle.std.specs.Str.{bytes_eq}
-use Rattle.decimal_words.specs.Numbers.{number_named}
-use Rattle.source_events.specs.declared.plan.Plan.{Plan}
+use Rattle.std.specs.Prelude.{ℕ, ◌<◌, List, length, Bool, ◌==◌, ◌&&◌, nat_lt, if◌then◌else◌, codes, Result, Ok, Err}
+use Rattle.std.specs.Prelude.{ok_or, bytes_eq}
+use Rattle.script_text.specs.Names.{number_named, Plan}
 use Rattle.script_text.specs.declared.lines.Line.{Line}
 use Rattle.script_text.specs.declared.lines.Line.TheVariants.{Nothing}
 use Rattle.script_text.specs.declared.version_two.Line2.{Line2}

@@ -1,6 +1,6 @@
 -- The words of a line.
-use Rattle.std.specs.Prelude.{slice_index_or, map, ℕ, ◌+◌, List, [], ◌∷◌, length}
-use Rattle.std.specs.Prelude.{Bool, true, false, ◌&&◌, ◌==◌, nat_lt, nat_le}
+use Rattle.std.specs.Prelude.{slice_index_or, map, ℕ, ◌+◌, List, [], ◌∷◌, length, Bool, true, false, ◌&&◌, ◌==◌, nat_lt}
+use Rattle.std.specs.Prelude.{nat_le}
 use Rattle.std.specs.Borrow.{Bor}
 use Rattle.std.specs.List.{slice_split, list_all}
 

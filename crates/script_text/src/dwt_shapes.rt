@@ -25,6 +25,17 @@ pub enum DwtShape {
     Other(Size),
 }
 
+macro_rules! accessed {
+    ($access:literal, $size:literal) => {
+        &[
+            Field::Number,
+            Field::Word($access),
+            Field::Word($size),
+            Field::Number,
+        ]
+    };
+}
+
 impl DwtShape {
     /// The words after the first.
     pub fn fields(&self) -> &'static [Field]
@@ -38,42 +49,12 @@ impl DwtShape {
             DwtShape::Asleep => &[],
             DwtShape::MatchPc => &[Field::Number, Field::Word("pc"), Field::Number],
             DwtShape::MatchAddress => &[Field::Number, Field::Word("addr"), Field::Number],
-            DwtShape::Read(Size::One) => &[
-                Field::Number,
-                Field::Word("read"),
-                Field::Word("u8"),
-                Field::Number,
-            ],
-            DwtShape::Read(Size::Two) => &[
-                Field::Number,
-                Field::Word("read"),
-                Field::Word("u16"),
-                Field::Number,
-            ],
-            DwtShape::Read(Size::Four) => &[
-                Field::Number,
-                Field::Word("read"),
-                Field::Word("u32"),
-                Field::Number,
-            ],
-            DwtShape::Written(Size::One) => &[
-                Field::Number,
-                Field::Word("write"),
-                Field::Word("u8"),
-                Field::Number,
-            ],
-            DwtShape::Written(Size::Two) => &[
-                Field::Number,
-                Field::Word("write"),
-                Field::Word("u16"),
-                Field::Number,
-            ],
-            DwtShape::Written(Size::Four) => &[
-                Field::Number,
-                Field::Word("write"),
-                Field::Word("u32"),
-                Field::Number,
-            ],
+            DwtShape::Read(Size::One) => accessed!("read", "u8"),
+            DwtShape::Read(Size::Two) => accessed!("read", "u16"),
+            DwtShape::Read(Size::Four) => accessed!("read", "u32"),
+            DwtShape::Written(Size::One) => accessed!("write", "u8"),
+            DwtShape::Written(Size::Two) => accessed!("write", "u16"),
+            DwtShape::Written(Size::Four) => accessed!("write", "u32"),
             DwtShape::Other(Size::One) => &[Field::Number, Field::Word("u8"), Field::Number],
             DwtShape::Other(Size::Two) => &[Field::Number, Field::Word("u16"), Field::Number],
             DwtShape::Other(Size::Four) => &[Field::Number, Field::Word("u32"), Field::Number],

@@ -1,10 +1,10 @@
 //! The lines of scripts (this project's profile).
 
 ghost use Rattle.std.specs.Prelude.{◌≡◌, Err, IfOk, OnErr, OnOk, if◌then◌else◌};
-ghost use Rattle.source_events.specs.Plan.{kind_of};
+ghost use Rattle.script_text.specs.Names.{kind_of};
 ghost use Rattle.script_text.specs.Words.{texts, are_printable};
-ghost use Rattle.script_text.specs.Lines.{taken_by, line_of_shape, line_of_words as line_in};
-ghost use Rattle.script_text.specs.Lines.{line_of, line_of_printable, answer};
+ghost use Rattle.script_text.specs.Lines.{taken_by, line_of_shape, line_of_words as line_in, line_of};
+ghost use Rattle.script_text.specs.Lines.{line_of_printable, answer};
 ghost use Rattle.script_text.specs.Said.{IsSaid};
 
 use crate::dwt_shapes::dwt_of;

@@ -4,7 +4,7 @@ ghost use Rattle.std.specs.Prelude.{◌≡◌, ◌⊎◌, ◌≤◌, ◌<◌, �
 ghost use Rattle.std.specs.List.{list_all};
 ghost use Rattle.std.specs.Char.{is_ascii_hexdigit, digit_value};
 ghost use Rattle.std.specs.Str.Parse.{digits_value};
-ghost use Rattle.itm_grammar.specs.Spelling.{byte_count};
+ghost use Rattle.script_text.specs.Names.{byte_count};
 ghost use Rattle.script_text.specs.Words.{texts};
 ghost use Rattle.script_text.specs.Numbers.{hexadecimal_named as named, decimal_at as decimal_in};
 ghost use Rattle.script_text.specs.Numbers.{hexadecimal_at as hexadecimal_in};

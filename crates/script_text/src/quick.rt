@@ -1,7 +1,7 @@
 //! Lines of the most frequent packets and of bytes, read from their bytes with no list of words.
 
 ghost use Rattle.std.specs.Prelude.{◌≡◌, ◌<◌, ◌≤◌, ◌*◌, IfSome, ◌++◌, codes};
-ghost use Rattle.itm_grammar.specs.Spelling.{byte_count};
+ghost use Rattle.script_text.specs.Names.{byte_count};
 ghost use Rattle.script_text.specs.Quick.{BeginsWith, BeginsWithNumber, BeginsWithDigits, IsItemOf, SaysFirst};
 ghost use Rattle.script_text.specs.Quick.{IsFirstLine};
 ghost use Rattle.script_text.specs.declared.items.Item.TheVariants.{Raw};

@@ -1,12 +1,12 @@
 //! Lines of data of system traces, read from their bytes with no list of words.
 
-ghost use Rattle.std.specs.Prelude.{◌≡◌, ◌<◌, ◌≤◌, ◌/◌, IfSome, ◌++◌, codes};
+ghost use Rattle.std.specs.Prelude.{◌≡◌, IfSome, ◌++◌, codes};
+ghost use Rattle.script_text.specs.Names.{mark_text, width_text};
 ghost use Rattle.script_text.specs.Quick.{BeginsWith, BeginsWithDigits, IsItemOf, IsStamp, SaysItem};
 ghost use Rattle.script_text.specs.declared.items.Item.TheVariants.{Stp};
-ghost use Rattle.stp_grammar.specs.Proper.{bits_of};
-ghost use Rattle.trace_text.specs.StpText.{mark_text, width_text};
 
 use crate::quick::{digits_word, number_word};
+use crate::stp_shapes::digits_of;
 use decimal_words::number_in;
 use stp_grammar::item::{Place, Stamp, StpItem};
 use stp_grammar::packet::Width;
@@ -23,21 +23,6 @@ fn width_word(line: &[u8]) -> Option<(Width, &[u8])>
         [b'u', b'3', b'2', b' ', rest @ ..] => Some((Width::ThirtyTwo, rest)),
         [b'u', b'6', b'4', b' ', rest @ ..] => Some((Width::SixtyFour, rest)),
         _ => None,
-    }
-}
-
-/// How many digits a datum of this width has.
-#[inline(always)]
-fn digits_of(width: Width) -> usize
-    ensures value { result ≡ bits_of width / 4 }
-    ensures few { (0 < result) × (result ≤ 16) }
-{
-    match width {
-        Width::Four => 1,
-        Width::Eight => 2,
-        Width::Sixteen => 4,
-        Width::ThirtyTwo => 8,
-        Width::SixtyFour => 16,
     }
 }
 

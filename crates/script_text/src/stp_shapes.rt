@@ -1,7 +1,7 @@
 //! The texts of STP items, by their words.
 
-ghost use Rattle.std.specs.Prelude.{◌≡◌, ◌/◌, map, true, false};
-ghost use Rattle.stp_grammar.specs.Proper.{bits_of};
+ghost use Rattle.std.specs.Prelude.{◌≡◌, ◌<◌, ◌≤◌, ◌/◌, map, true, false};
+ghost use Rattle.script_text.specs.Names.{bits_of};
 ghost use Rattle.script_text.specs.Words.{texts};
 ghost use Rattle.script_text.specs.Numbers.{hexadecimal_at as hexadecimal_in};
 ghost use Rattle.script_text.specs.Shapes.{seen, fields_of};
@@ -80,18 +80,26 @@ impl StpShape {
     }
 }
 
-/// The value that the word of this number is: as many digits as a datum of this width has nibbles.
-fn datum_at(width: Width, words: &[&[u8]], k: usize) -> Option<u64>
-    ensures { result ≡ hexadecimal_in (bits_of width / 4) (texts words.now) k }
+/// How many digits a datum of this width has.
+#[inline(always)]
+pub fn digits_of(width: Width) -> usize
+    ensures value { result ≡ bits_of width / 4 }
+    ensures few { (0 < result) × (result ≤ 16) }
 {
-    let count = match width {
+    match width {
         Width::Four => 1,
         Width::Eight => 2,
         Width::Sixteen => 4,
         Width::ThirtyTwo => 8,
         Width::SixtyFour => 16,
-    };
-    hexadecimal_at(count, words, k)
+    }
+}
+
+/// The value that the word of this number is: as many digits as a datum of this width has nibbles.
+fn datum_at(width: Width, words: &[&[u8]], k: usize) -> Option<u64>
+    ensures { result ≡ hexadecimal_in (bits_of width / 4) (texts words.now) k }
+{
+    hexadecimal_at(digits_of(width), words, k)
 }
 
 /// What was written, with its place and its timestamp.

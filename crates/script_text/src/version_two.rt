@@ -1,7 +1,7 @@
 //! The lines of scripts of version 2 (this project's profile): those of version 1, `flush`, and `125 trigger hh`.
 
 ghost use Rattle.std.specs.Prelude.{◌≡◌, Err, IfOk};
-ghost use Rattle.source_events.specs.declared.plan.Plan.{Plan};
+ghost use Rattle.script_text.specs.Names.{Plan};
 ghost use Rattle.script_text.specs.Words.{texts};
 ghost use Rattle.script_text.specs.Lines.{line_of};
 ghost use Rattle.script_text.specs.VersionTwo.{is_trigger, line2_of, trigger_of, IsSaid2, IsNew};

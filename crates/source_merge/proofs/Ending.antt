@@ -1,5 +1,5 @@
 -- The tails of the mapped sources.
-use Rattle.std.proofs.Common.{◌≡◌, ℕ, zero, suc, ◌+◌, ◌≤◌, List, [], ◌∷◌, ◌++◌, length, map, flat_map, get_or, refl}
+use Rattle.std.proofs.Common.{◌≡◌, ℕ, suc, ◌+◌, ◌≤◌, List, [], ◌∷◌, ◌++◌, length, map, flat_map, get_or, refl}
 use Rattle.std.proofs.Common.{sym, ◌∙◌, ap, subst, arith, Option, None, Some, Bool, true, false, cond, append-nil}
 use Rattle.std.specs.Prelude.{◌==◌, ◌||◌, position, nat_lt, not}
 use Rattle.std.specs.Option.{option_map}

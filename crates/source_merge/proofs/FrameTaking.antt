@@ -1,5 +1,5 @@
 -- A frame that is taken run by run: what is so after some of its runs, after one with a fault, and after the last.
-use Rattle.std.proofs.Common.{append-nil, append_assoc, ◌≡◌, ℕ, ◌+◌, ◌-◌, ◌*◌, ◌≤◌, List, [], ◌∷◌, ◌++◌, length, refl, sym, ◌∙◌, ap, subst, arith}
+use Rattle.std.proofs.Common.{append_assoc, ◌≡◌, ℕ, ◌+◌, ◌-◌, ◌*◌, ◌≤◌, List, [], ◌∷◌, ◌++◌, length, refl, sym, ◌∙◌, ap, subst, arith}
 use Rattle.std.proofs.Common.{Option, None, Some}
 use Rattle.source_merge.specs.Names.{Cell, Event, Packet, Stop, Mapped, RisesFrom, IsRunFrom, runs_of}
 use Rattle.source_merge.specs.declared.counts.ByteCounts.{ByteCounts}
@@ -12,6 +12,7 @@ use Rattle.source_merge.specs.Stepping.{CountsFrame}
 use Rattle.source_events.proofs.Least.{AreSound}
 use Rattle.source_merge.proofs.ByParts.{TookBy}
 use Rattle.source_merge.proofs.Filling.{Filled}
+use Rattle.source_merge.proofs.FrameCounting.{Counting, counting_first, counting_more, none_counted, run_counted}
 use Rattle.source_merge.proofs.Framing.{FirstRun, done_all, took_as, rest_in_order, filled_none, filled_more, fed_all, fed_stopped}
 use Rattle.source_merge.proofs.Givings.{given_none, given_more, given_within}
 use Rattle.source_merge.proofs.Slots.{ready_more}
@@ -23,12 +24,10 @@ module _ {S : Type 0} (gets : S → List (Event Packet) → S → Type 0) (room 
   pub record SoFar (rest : List Cell) (slots : List Slot) (now : ByteCounts) (taken : PerSource × S) : Type 0 where
     pub done : List (List Cell)
     pub parts : runs_of cells ≡ done ++ runs_of rest
-    pub size : length rest ≤ length cells
     pub slots_are : TookCells (2 * (length cells - length rest)) first slots None
     pub given : List (Event Packet)
     pub to_receiver : Given gets room (2 * (length cells - length rest)) items taken given
-    pub counted : (whole runs : List (List Cell)) → HasBytes counts whole runs → HasBytes now whole (runs ++ done)
-    pub count : bytes_counted now ≤ bytes_counted counts + (length cells - length rest)
+    pub counted : Counting cells counts rest now
     pub fed : (runs : List (List Cell)) (n : ℕ) → AreDistinct (mapped_of first) → AllStand first runs → RunsBetween 0 n runs →
         RisesFrom n cells → Filled (mapped_of first) slots runs n done rest given
 
@@ -36,18 +35,16 @@ module _ {S : Type 0} (gets : S → List (Event Packet) → S → Type 0) (room 
   pub record IsTaken (slots : List Slot) (now : ByteCounts) (taken : PerSource × S) (stop : Option Stop) : Type 0 where
     pub slots_are : TookCells (2 * length cells) first slots stop
     pub fed : Gives gets room (2 * length cells) items taken (TakesFrame first slots cells stop)
-    pub counts_are : CountsFrame counts now cells stop
+    pub counts_are : CountsFrame counts now cells
 
   pub none_taken : ((s : S) → gets s [] s) → SoFar cells first counts items
   none_taken none = record {
     done = [];
     parts = refl;
-    size = omega arith;
     slots_are = record { same = refl; ready = λ e n r. ready_more n _ first (omega arith) r };
     given = [];
     to_receiver = given_none gets room none _ items;
-    counted = λ whole runs h. subst (λ (l : List (List Cell)). HasBytes counts whole l) (sym (append-nil runs)) h;
-    count = omega arith;
+    counted = counting_first cells counts;
     fed = λ runs n d a b r. filled_none (mapped_of first) runs n first cells r a;
   }
 
@@ -69,21 +66,17 @@ module _ {S : Type 0} (gets : S → List (Event Packet) → S → Type 0) (room 
         ((whole runs : List (List Cell)) → HasBytes now whole runs → HasBytes next whole (runs ++ run ∷ [])) →
         bytes_counted next ≡ bytes_counted now + length run → SoFar more new next taken
     one_more e counted count =
-        let size = i.size in
+        let size = i.counted.size in
         let total = cut.total in record {
           done = i.done ++ run ∷ [];
           parts = i.parts ∙ ap (λ (l : List (List Cell)). i.done ++ l) cut.cut ∙ sym (append_assoc i.done (run ∷ []) (runs_of more));
-          size = omega arith;
           slots_are = record {
             same = took.same ∙ i.slots_are.same;
             ready = λ k n r. ready_more _ _ new (omega arith) (took.ready e _ (i.slots_are.ready refl n r));
           };
           given = i.given ++ gave.0;
           to_receiver = gave_so_far _ (omega arith);
-          counted = λ whole runs h.
-              subst (λ (l : List (List Cell)). HasBytes next whole l) (append_assoc runs i.done (run ∷ []))
-              (counted whole (runs ++ i.done) (i.counted whole runs h));
-          count = (let a = i.count in omega arith);
+          counted = counting_more cells counts rest run more cut now next i.counted counted count;
           fed = λ runs n d a b r.
               let f = i.fed runs n d a b r in
               let one = cut.rises f.at f.rises in
@@ -91,11 +84,13 @@ module _ {S : Type 0} (gets : S → List (Event Packet) → S → Type 0) (room 
               (took_run runs f.at d f.list one.0 None e);
         }
 
-    -- it stops the report
-    pub stopped : (s : Stop) → stop ≡ Some s → (m : ℕ) → AreReady m first → bytes_counted next ≡ bytes_counted now + length run →
-        IsTaken new next taken (Some s)
-    stopped s e m ready count =
-        let size = i.size in
+    -- it stops the report, and the other runs are counted
+    pub stopped : (s : Stop) → stop ≡ Some s → (m : ℕ) → AreReady m first →
+        ((whole runs : List (List Cell)) → HasBytes now whole runs → HasBytes next whole (runs ++ run ∷ [])) →
+        bytes_counted next ≡ bytes_counted now + length run → (last : ByteCounts) → CountsFrame next last more →
+        IsTaken new last taken (Some s)
+    stopped s e m ready counted count last others =
+        let size = i.counted.size in
         let total = cut.total in record {
           slots_are = record { same = took.same ∙ i.slots_are.same; ready = λ k. (let q = k in cc) };
           fed = (
@@ -109,7 +104,7 @@ module _ {S : Type 0} (gets : S → List (Event Packet) → S → Type 0) (room 
                 (fed_stopped (mapped_of first) runs n (lawful first) slots new i.done (runs_of more) rest run i.given gave.0 s
                 (sound m first runs ready a) b f one.0 (rest_in_order more _ one.1) (took_run runs f.at d f.list one.0 (Some s) e)),
           );
-          counts_are = record { counted = λ whole runs k. (let q = k in cc); count = (let a = i.count in omega arith) };
+          counts_are = i.counted.all last (run_counted rest run more cut now next last counted count others);
         }
 
   -- all runs are taken
@@ -131,9 +126,5 @@ module _ {S : Type 0} (gets : S → List (Event Packet) → S → Type 0) (room 
               (subst (λ (z : List (Mapped Packet)). AreSound z (runs ++ i.done)) i.slots_are.same
               (sound _ slots (runs ++ i.done) (i.slots_are.ready refl m ready) f.list))),
         );
-        counts_are = record {
-          counted = λ whole runs e h.
-              subst (λ (l : List (List Cell)). HasBytes now whole (runs ++ l)) (sym all) (i.counted whole runs h);
-          count = (let a = i.count in omega arith);
-        };
+        counts_are = i.counted.all now (none_counted rest none now);
       }

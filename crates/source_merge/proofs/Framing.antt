@@ -1,5 +1,6 @@
 -- A frame that is taken run by run, and what it adds to the report.
 use Rattle.std.proofs.Common.{◌≡◌, ℕ, ◌+◌, ◌<◌, ◌≤◌, List, [], ◌∷◌, ◌++◌, length, take, drop, refl, sym, ◌∙◌, ap, subst, append_assoc, append-nil, arith, Option, None, Some}
+use Rattle.std.proofs.lemmas.List.{length-drop, length-take-le}
 use Rattle.source_merge.specs.Names.{Cell, Reason, Place, Event, Stop, id_of, runs_of, run_length, RisesFrom}
 use Rattle.source_merge.specs.Names.{IsRunFrom, end_of, more_of, grown, merged_from, InOrder, cut, Below, Mapped}
 use Rattle.source_merge.specs.Names.{AreLawful, events, least_fault, all_events, reported, stop_of}
@@ -31,6 +32,17 @@ pub record FirstRun (rest run more : List Cell) : Type 0 where
   pub cut : runs_of rest ≡ run ∷ runs_of more
   pub total : length rest ≡ length run + length more
   pub rises : (n : ℕ) → RisesFrom n rest → IsRunFrom n run × RisesFrom (end_of run) more
+
+-- the first run, of so many cells
+pub cut_first : (rest run : List Cell) (k : ℕ) → run ≡ take k rest → k ≡ run_length rest → 0 < k → k ≤ length rest → FirstRun rest run (drop k rest)
+cut_first rest run k e is some within =
+    let taken = length-take-le k rest within in
+    let left = length-drop k rest in
+    subst (λ (l : List Cell). FirstRun rest l (drop k rest)) (sym e) (record {
+      cut = cut_at rest k is (omega arith);
+      total = omega arith;
+      rises = λ n r. first_at rest k n is (omega arith) r;
+    })
 
 pub done_all : (all done : List (List Cell)) (rest : List Cell) → all ≡ done ++ runs_of rest → length rest ≡ 0 → all ≡ done
 done_all all done [] p h = p ∙ append-nil done

@@ -21,7 +21,6 @@ use Rattle.source_merge.specs.declared.flow.Flow.TheVariants.{Going}
 use Rattle.source_merge.specs.declared.slot.Slot.{Slot}
 use Rattle.source_merge.specs.Answering.{Answers, port_of, report_of, fault_of, fault_by}
 use Rattle.source_merge.specs.Counting.{HasBytes, HasItems, HasCounted}
-use Rattle.source_merge.specs.Engine.{Keeps}
 use Rattle.source_merge.specs.Routing.{mapped_of, AreReady, AllStand, AreDistinct}
 use Rattle.source_merge.specs.Stepping.{CountsStep, StepAt, TakesStep}
 use Rattle.source_merge.proofs.Steps.{IsNothing, taken_none, rise_push}
@@ -178,17 +177,19 @@ module _ (plan : Plan) (slots : List Slot) (sources : mapped_of slots ≡ source
       (given : List (Event Packet)) (stop : Option Stop) (flow : Flow) : Type 0 where
     pub fed : FedAs (Answers plan [] Going) (Answers plan given flow) u at bytes
     pub fault : fault_of plan (u ++ placed_from at bytes) ≡ option_map stop_of stop
-    pub keeps : stop ≡ None → Keeps plan now counters (u ++ placed_from at bytes)
+    pub counted : HasCounted counters (port_of plan (u ++ placed_from at bytes)) (report_of plan (u ++ placed_from at bytes))
+    pub stand : stop ≡ None → AllStand now (runs_in (port_of plan (u ++ placed_from at bytes)))
 
   pub stepped : (now : List Slot) (counters new : Counters) (halves : ℕ) (step : StepAt)
       (given : List (Event Packet)) (stop : Option Stop) (flow : Flow) (u : List Placed) (at : ℕ) (bytes : List ℕ) →
-      BytesRise 0 at u → fault_of plan u ≡ None → Keeps plan slots counters u → AreDistinct mapped →
+      BytesRise 0 at u → fault_of plan u ≡ None → AllStand slots (runs_in (port_of plan u)) →
+      HasCounted counters (port_of plan u) (report_of plan u) → AreDistinct mapped →
       (f : FedAs (IsInside plan.frames) (PortAnswers plan.frames step.step step.cells) u at bytes) →
       halves ≡ (port_of plan (u ++ placed_from at f.front)).halves →
       ((k : ℕ) → length bytes ≡ k + 1 → step.at ≡ at + k) → TakesStep step slots now stop given →
-      CountsStep step (with_halves counters halves) new stop given → fault_by flow ≡ option_map stop_of stop →
+      CountsStep step (with_halves counters halves) new given → fault_by flow ≡ option_map stop_of stop →
       Stepped now new u at bytes given stop flow
-  stepped now counters new halves step given stop flow u at bytes rise e k d f more place taken counted flow_is = record {
+  stepped now counters new halves step given stop flow u at bytes rise e stand k d f more place taken counted flow_is = record {
     fed = record {
       front = f.front;
       last = f.last;
@@ -197,15 +198,12 @@ module _ (plan : Plan) (slots : List Slot) (sources : mapped_of slots ≡ source
       ends = record { events = grew; fault = fault_is ∙ sym flow_is };
     };
     fault = ap (fault_of plan) (sym all) ∙ fault_is;
-    keeps = λ n.
-        subst (λ (l : List Placed). Keeps plan now new l) all
-        (record {
-          stand = t.list n;
-          counted =
-              subst (λ (es : List (Event Packet)). HasCounted new (port_of plan next) es) (sym grew)
-              (subst (λ (i : ℕ). CountsStep (record { at = i; step = step.step; cells = step.cells }) (with_halves counters halves) new stop given) here counted plan.frames w f.last (report_of plan w) n f.ends
-              (counted_on counters halves u w k.counted q.unchanged more));
-        });
+    counted =
+        subst (λ (l : List Placed). HasCounted new (port_of plan l) (report_of plan l)) all
+        (subst (λ (es : List (Event Packet)). HasCounted new (port_of plan next) es) (sym grew)
+        (subst (λ (i : ℕ). CountsStep (record { at = i; step = step.step; cells = step.cells }) (with_halves counters halves) new given) here counted plan.frames w f.last (report_of plan w) f.ends
+        (counted_on counters halves u w k q.unchanged more)));
+    stand = λ n. subst (λ (l : List Placed). AllStand now (runs_in (port_of plan l))) all (t.list n);
   } where
     w : List Placed
     w = u ++ placed_from at f.front
@@ -222,7 +220,7 @@ module _ (plan : Plan) (slots : List Slot) (sources : mapped_of slots ≡ source
     here = place (length f.front) (ap length f.parts ∙ length-append f.front (f.last ∷ []))
 
     q : Quiets u at f.front
-    q = all_inside f.front u at rise e k.stand f.quiet
+    q = all_inside f.front u at rise e stand f.quiet
 
     t : StepTakenBy mapped now plan.frames (u ++ placed_from at f.front) ((u ++ placed_from at f.front) ++ byte_at (at + length f.front) f.last ∷ []) given stop
     t =

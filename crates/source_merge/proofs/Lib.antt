@@ -8,6 +8,7 @@ pub mod Early
 pub mod Slots
 pub mod Taking
 pub mod Framing
+pub mod FrameCounting
 pub mod FrameTaking
 pub mod Steps
 pub mod Standing

@@ -9,12 +9,9 @@ use Rattle.source_merge.specs.Names.{is_live, placed_run}
 use Rattle.trace_values.proofs.Placing.{placed_from_push}
 use Rattle.source_events.proofs.Least.{AreSound}
 use Rattle.source_machine.specs.MachineLaws as laws
-use Rattle.source_merge.specs.declared.counts.Counters.{Counters}
 use Rattle.source_merge.specs.declared.slot.Slot.{Slot}
 use Rattle.source_merge.specs.Answering.{port_of, report_of, fault_of}
 use Rattle.source_merge.specs.Feeding.{Feeds, IsEarly, place_and_reason}
-use Rattle.source_merge.specs.Counting.{HasCounted}
-use Rattle.source_merge.specs.Engine.{Keeps}
 use Rattle.source_merge.specs.Routing.{mapped_of, AreReady, AllStand, AreDistinct, HasNot, SlotFed}
 use Rattle.source_merge.proofs.BareLists.{list_from, others_stand}
 use Rattle.source_merge.proofs.BareGrown.{Grown, piece_grows, piece_stops}
@@ -37,14 +34,13 @@ pub record Stopped (plan : Plan) (u : List Placed) (at : ℕ) (bs : List ℕ) (g
   pub stops : fault_of plan (u ++ placed_from at (front ++ last ∷ [])) ≡ Some (stop_of (record { fault = x; source = Some 1 }))
   pub sound : fault_of plan (u ++ placed_from at front) ≡ None
 
--- What the machine of source 1 made of these bytes: the report grows by all that it gave. With no fault the machines and
--- the counters are those of the longer list.
+-- What the machine of source 1 made of these bytes: the report grows by all that it gave. With no fault the machines are
+-- those of the longer list.
 pub record Made (plan : Plan) (u : List Placed) (at : ℕ) (bs : List ℕ) (now : List Slot) (given : List (Event Packet))
     (fault : Option Fault) : Type 0 where
   pub grew : fault ≡ None → report_of plan (u ++ placed_from at bs) ≡ report_of plan u ++ given
   pub sound : fault ≡ None → fault_of plan (u ++ placed_from at bs) ≡ None
-  pub keeps_on : fault ≡ None → (new : Counters) → HasCounted new (port_reading Bare (u ++ placed_from at bs)) (report_of plan u ++ given) →
-      Keeps plan now new (u ++ placed_from at bs)
+  pub stand_on : fault ≡ None → AllStand now (runs_in (port_of plan (u ++ placed_from at bs)))
   pub stops : (x : Fault) → fault ≡ Some x → Stopped plan u at bs given x
 
 module _ (plan : Plan) (slots : List Slot) (sources : mapped_of slots ≡ sources_by plan)
@@ -160,14 +156,9 @@ module _ (plan : Plan) (slots : List Slot) (sources : mapped_of slots ≡ source
           (sym (list_from one.id f.id_is bs at u ∙ sym placed)) (feeds.list goes)))
           (others_stand f.back one.id f.id_is behind bs at u split.2))
 
-      -- the machines and the counters are those of the longer list
-      keeps_on : (new : Counters) → HasCounted new (port_reading Bare next) (report_of plan u ++ given) → Keeps plan now new next
-      keeps_on new counted = record {
-        stand = subst (λ (m : FramesMode). AllStand now (runs_in (port_reading m next))) (sym bare) stand_now;
-        counted =
-            subst (λ (es : List (Event Packet)). HasCounted new (port_of plan next) es) (sym grew)
-            (subst (λ (m : FramesMode). HasCounted new (port_reading m next) (report_of plan u ++ given)) (sym bare) counted);
-      }
+      -- the machines are those of the longer list
+      stand_on : AllStand now (runs_in (port_of plan next))
+      stand_on = subst (λ (m : FramesMode). AllStand now (runs_in (port_reading m next))) (sym bare) stand_now
 
     module _ (x : Fault) (is : fault ≡ Some x) where
       stream_none : (reading_of f.slot.machine list).fault ≡ None
@@ -205,4 +196,4 @@ module _ (plan : Plan) (slots : List Slot) (sources : mapped_of slots ≡ source
           }
 
     pub made_of : Made plan u at bs now given fault
-    made_of = record { grew = grew; sound = goes_on; keeps_on = keeps_on; stops = stopped }
+    made_of = record { grew = grew; sound = goes_on; stand_on = stand_on; stops = stopped }

@@ -2,8 +2,6 @@
 use Rattle.std.specs.Prelude.{◌≡◌, ℕ, List, length, Bool, true, is_none}
 use Rattle.source_merge.specs.Names.{Placed, offsets_of, BytesRise, end_at, Plan, sources_by, runs_in}
 use Rattle.deformatter.specs.Reader as reader
-use Rattle.source_merge.specs.declared.slot.Slot.{Slot}
-use Rattle.source_merge.specs.declared.counts.Counters.{Counters}
 use Rattle.source_merge.specs.declared.engine.Engine.{Engine}
 use Rattle.source_merge.specs.Routing.{mapped_of, AllStand}
 use Rattle.source_merge.specs.Counting.{HasCounted}
@@ -21,13 +19,9 @@ is_live engine = engine.live
 abbrev pub next_of : Engine → ℕ
 next_of engine = engine.next
 
--- these machines stand for the lists of their sources, and these counters have counted what came
-pub record Keeps (plan : Plan) (slots : List Slot) (counters : Counters) (u : List Placed) : Type 0 where
-  pub stand : AllStand slots (runs_in (port_of plan u))
-  pub counted : HasCounted counters (port_of plan u) (report_of plan u)
-
--- It has read these bytes, whose offsets rise: its port stands for them, it is live exactly where their report has no
--- fault, and while it is live it keeps what the report goes on with.
+-- It has read these bytes, whose offsets rise: its port stands for them, its counters have counted the port and the
+-- report, it is live exactly where the report has no fault, and while it is live its machines stand for the lists of
+-- their sources. At a fault the port has the frame that the fault is in, and the report has the events before it.
 pub record Stands (engine : Engine) (u : List Placed) : Type 0 where
   pub port : reader.Stands engine.port u
   pub mode : reader.mode_of engine.port ≡ engine.plan.frames
@@ -36,4 +30,5 @@ pub record Stands (engine : Engine) (u : List Placed) : Type 0 where
   pub next : engine.next ≡ end_at 0 (offsets_of u)
   pub count : engine.count ≡ length u
   pub live : engine.live ≡ is_none (fault_of engine.plan u)
-  pub going : engine.live ≡ true → Keeps engine.plan engine.slots.items engine.counters u
+  pub counted : HasCounted engine.counters (port_of engine.plan u) (report_of engine.plan u)
+  pub going : engine.live ≡ true → AllStand engine.slots.items (runs_in (port_of engine.plan u))

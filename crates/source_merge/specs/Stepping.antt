@@ -34,10 +34,9 @@ pub record MayTake (slots : List Slot) (counts : ByteCounts) : Type 0 where
   pub slots_are : AreReady FRAME_ROOM slots
   pub bytes : bytes_counted counts ≤ FRAME_ROOM
 
--- These cells are counted, where nothing stops the report.
-pub record CountsFrame (old new : ByteCounts) (cells : List Cell) (stop : Option Stop) : Type 0 where
-  pub counted : (whole runs : List (List Cell)) → stop ≡ None → HasBytes old whole runs →
-      HasBytes new whole (runs ++ runs_of cells)
+-- All of these cells are counted, also where a fault stops the report among them.
+pub record CountsFrame (old new : ByteCounts) (cells : List Cell) : Type 0 where
+  pub counted : (whole runs : List (List Cell)) → HasBytes old whole runs → HasBytes new whole (runs ++ runs_of cells)
   pub count : bytes_counted new ≤ bytes_counted old + length cells
 
 -- what a step of the port says at this offset, and the cells of the frame that it may end
@@ -54,17 +53,16 @@ TakesStep step old new stop given = (mode : FramesMode) (u : List Placed) (byte 
     StepTaken (mapped_of old) new mode
     (record { before = u; after = u ++ byte_at step.at byte ∷ []; given = given; stop = stop })
 
--- It is counted with these events, where nothing stops the report.
-abbrev pub CountsStep : StepAt → Counters → Counters → Option Stop → List (Event Packet) → Type 0
-CountsStep step old new stop given = (mode : FramesMode) (u : List Placed) (byte : ℕ) (es : List (Event Packet)) →
-    stop ≡ None → Answers mode step.step step.cells u step.at byte → HasCounted old (port_reading mode u) es →
+-- It is counted with these events.
+abbrev pub CountsStep : StepAt → Counters → Counters → List (Event Packet) → Type 0
+CountsStep step old new given = (mode : FramesMode) (u : List Placed) (byte : ℕ) (es : List (Event Packet)) →
+    Answers mode step.step step.cells u step.at byte → HasCounted old (port_reading mode u) es →
     HasCounted new (port_reading mode (u ++ byte_at step.at byte ∷ [])) (es ++ given)
 
 -- its bytes alone
-abbrev pub CountsBytes : StepAt → ByteCounts → ByteCounts → Option Stop → Type 0
-CountsBytes step old new stop = (whole : List (List Cell)) (mode : FramesMode) (u : List Placed) (byte : ℕ) →
-    stop ≡ None → Answers mode step.step step.cells u step.at byte →
-    HasBytes old whole (runs_in (port_reading mode u)) →
+abbrev pub CountsBytes : StepAt → ByteCounts → ByteCounts → Type 0
+CountsBytes step old new = (whole : List (List Cell)) (mode : FramesMode) (u : List Placed) (byte : ℕ) →
+    Answers mode step.step step.cells u step.at byte → HasBytes old whole (runs_in (port_reading mode u)) →
     HasBytes new whole (runs_in (port_reading mode (u ++ byte_at step.at byte ∷ [])))
 
 -- so much at most is counted with it

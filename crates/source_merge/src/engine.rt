@@ -58,6 +58,7 @@ pub struct Engine {
     ghost few: { tail_of port + skipped_by_port port ≤ count },
     ghost ready: { live ≡ true → AreReady (30 * count) slots.items } by { ready-prop live (30 * count) slots.items },
     ghost size: { live ≡ true → size_of counters ≤ 46 * count },
+    ghost most: { size_of counters ≤ 46 * (GREATEST_OFFSET + 1) },
     ghost whole: { whole_of counters ≤ count },
     ghost within: { count ≤ next },
     ghost limit: { next ≤ GREATEST_OFFSET + 1 },
@@ -444,18 +445,17 @@ impl Engine {
         self.next = at + bytes;
     }
 
-    /// How many bytes a source has, and how many events without notices. The engine is live.
+    /// How many bytes a source has, and how many events without notices. At a fault these are the bytes of all frames up
+    /// to the one that the fault is in, and the events before it.
     pub fn counts(&self, id: SourceId) -> Counts
-        requires { is_live self.now ≡ true }
         ensures value { (u : List Placed) → Stands self.now u → result ≡ source_counts_of (plan_of self.now) u id }
         ensures few { (result.bytes ≤ GREATEST_COUNT) × (result.items ≤ GREATEST_COUNT) }
     {
         self.counters.of(id)
     }
 
-    /// How many synchronisations and frames the port has. The engine is live.
+    /// How many synchronisations and frames the port has. At a fault the frame that the fault is in is one of them.
     pub fn port_counts(&self) -> PortCounts
-        requires { is_live self.now ≡ true }
         ensures { (u : List Placed) → Stands self.now u → result ≡ port_counts_of (plan_of self.now) u }
     {
         self.counters.port

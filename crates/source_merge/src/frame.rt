@@ -22,7 +22,7 @@ pub trait FrameCells {
     // slots that they can be taken to
     ghost suits: { Self → List Slot → Type 0 };
 
-    /// Takes the cells, each run to its source, up to a fault, and gives their events.
+    /// Takes the cells, each run to its source, up to a fault, and gives their events. All of them are counted.
     fn take<V: Receiver>(
         &self,
         slots: &mut [Slot],
@@ -38,7 +38,7 @@ pub trait FrameCells {
         ensures slots { TookCells (2 * length (cells self.now)) slots.old slots.new result }
         ensures fed { Gives V.gets V.room (2 * length (cells self.now)) (items.old, (out.old, to.old))
             (items.new, (out.new, to.new)) (TakesFrame slots.old slots.new (cells self.now) result) }
-        ensures counts { CountsFrame counts.old counts.new (cells self.now) result };
+        ensures counts { CountsFrame counts.old counts.new (cells self.now) };
 }
 
 /// The cells of any frame.

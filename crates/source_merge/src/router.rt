@@ -1,12 +1,13 @@
 //! The runs of a frame, each to its source.
 
-ghost use Rattle.source_merge.specs.Names.{told, raw_events, triggers, SourceMachine};
+ghost use Rattle.source_merge.specs.Names.{COUNT_ROOM, told, raw_events, triggers, SourceMachine};
 ghost use Rattle.trace_values.specs.declared.limits.TheConstants.{PART_ROOM};
 ghost use Rattle.source_merge.specs.declared.slot.TheConstants.{FRAME_ROOM};
 ghost use Rattle.std.specs.Prelude.{◌≡◌, ◌+◌, ◌*◌, ◌<◌, ◌≤◌, ◌++◌, ◌∷◌, length, None, Some, position, ◌==◌};
 ghost use Rattle.std.specs.Option.{option_map};
 ghost use Rattle.source_merge.specs.Routing.{AreReady, IsRunOf, SlotFed, SlotPlace, TakesFrame, TakesRun, TookCells};
 ghost use Rattle.source_merge.specs.Giving.{Given, Gives, HasRoom};
+ghost use Rattle.source_merge.specs.Counting.{bytes_counted};
 ghost use Rattle.source_merge.specs.Stepping.{CountsFrame, MayTake};
 
 use crate::counts::{ByteCounts, PerSource};
@@ -145,7 +146,23 @@ pub fn take_run<R: Run, V: Receiver>(
     stop_by(id, feed_slot(slots, index, id, run, items, out, to))
 }
 
-/// Takes the cells of a frame, each run to its source, up to a fault, and gives their events.
+/// Counts cells of a frame that no source takes any more, run by run. Kept out of line: this happens once at most.
+#[inline(never)]
+pub fn count_cells(counts: &mut ByteCounts, cells: &[Cell])
+    requires few { length cells.now ≤ 15 }
+    requires room { bytes_counted counts.old + length cells.now ≤ COUNT_ROOM }
+    ensures { CountsFrame counts.old counts.new cells.now }
+{
+    let mut rest = cells;
+    while !rest.is_empty() {
+        let bytes = run_length(rest);
+        let run = &rest[..bytes];
+        counts.add_run(&run[0].id, bytes as u64);
+        rest = &rest[bytes..];
+    }
+}
+
+/// Takes the cells of a frame, each run to its source, up to a fault, and gives their events. All of them are counted.
 pub fn take_frame<V: Receiver>(
     slots: &mut [Slot],
     cells: &[Cell],
@@ -160,7 +177,7 @@ pub fn take_frame<V: Receiver>(
     ensures slots { TookCells (2 * length cells.now) slots.old slots.new result }
     ensures fed { Gives V.gets V.room (2 * length cells.now) (items.old, (out.old, to.old))
         (items.new, (out.new, to.new)) (TakesFrame slots.old slots.new cells.now result) }
-    ensures counts { CountsFrame counts.old counts.new cells.now result }
+    ensures counts { CountsFrame counts.old counts.new cells.now }
 {
     let mut rest = cells;
     while !rest.is_empty() {
@@ -169,6 +186,7 @@ pub fn take_frame<V: Receiver>(
         counts.add_run(&run[0].id, n as u64);
         let stop = take_run(slots, &run[0].id, &CellRun::of(run), items, out, to);
         if let Some(stop) = stop {
+            count_cells(counts, &rest[n..]);
             return Some(stop);
         }
         rest = &rest[n..];

@@ -60,7 +60,9 @@ pub struct SplitFrame<'a> {
 
 impl<'f> SplitFrame<'f> {
     ghost use Rattle.std.specs.Prelude.{◌*◌, ◌/◌, [], None, IfSome, drop, slice_index};
-    ghost use Rattle.source_merge.specs.Names.{source_id};
+    ghost use Rattle.source_merge.specs.Counting.{bytes_counted};
+    ghost use Rattle.source_merge.specs.Names.{COUNT_ROOM, source_id};
+    ghost use Rattle.source_merge.specs.Stepping.{CountsFrame};
     ghost use Rattle.frame_grammar.specs.declared.frame.TheConstants.{FRAME_BYTES};
     ghost use Rattle.frame_runs.specs.Pairs.{end_at};
     ghost use Rattle.source_merge.specs.Split.{IsFirstRun, IsLeft, IsSplit, left_cells, run_in, split_cells};
@@ -126,6 +128,20 @@ impl<'f> SplitFrame<'f> {
             }
         }
         None
+    }
+
+    /// Counts those of its runs that are left, which no source takes any more. Kept out of line: this happens once at
+    /// most.
+    #[inline(never)]
+    fn count_left(&self, left: &mut RunsLeft, counts: &mut ByteCounts)
+        requires split { IsSplit self.now }
+        requires left { IsLeft self.now left.old }
+        requires room { bytes_counted counts.old + length (left_cells self.now left.old) ≤ COUNT_ROOM }
+        ensures { CountsFrame counts.old counts.new (left_cells self.now left.old) }
+    {
+        while let Some(run) = self.next_run(left) {
+            counts.add_run(&run.source(), run.len() as u64);
+        }
     }
 
     /// What begins where the run of this number ends, at this pair and before this index.
@@ -263,6 +279,7 @@ impl FrameCells for SplitFrame<'_> {
             let id = run.source();
             counts.add_run(&id, run.len() as u64);
             if let Some(stop) = take_run(slots, &id, &run, items, out, to) {
+                self.count_left(&mut left, counts);
                 return Some(stop);
             }
         }

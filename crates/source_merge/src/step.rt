@@ -42,7 +42,7 @@ fn take_ended<F: FrameCells, V: Receiver>(
         (TakesStep (record { at = at; step = step; cells = F.cells frame.now }) slots.old slots.new result) }
     ensures few { bytes_counted counts.new ≤ bytes_counted counts.old + 15 }
     ensures counted { CountsBytes (record { at = at; step = step; cells = F.cells frame.now })
-        counts.old counts.new result }
+        counts.old counts.new }
 {
     match step {
         PortStep::Frame => frame.take(slots, counts, items, out, to),
@@ -86,7 +86,7 @@ pub fn take_step<F: FrameCells, V: Receiver>(
     ensures space { V.room (out.old, to.old) ≤ V.room (out.new, to.new) + 30 }
     ensures taken { GivesTo V.gets (out.old, to.old) (out.new, to.new) (λ given.
         let step : StepAt = record { at = at; step = step; cells = F.cells frame.now } in
-        TakesStep step slots.old slots.new result given × CountsStep step counters.old counters.new result given) }
+        TakesStep step slots.old slots.new result given × CountsStep step counters.old counters.new given) }
 {
     add_step(&mut counters.port, &step);
     take_ended(
@@ -133,7 +133,7 @@ pub fn take_whole<V: Receiver>(
         let frame_cells = cells frame.now.bytes (frame_places frame.now) id.now in
         let step : StepAt = record { at = at; step = Frame; cells = frame_cells } in
         TakesStep step slots.old slots.new result.stop given
-        × CountsStep step counters.old counters.new result.stop given) }
+        × CountsStep step counters.old counters.new given) }
 {
     let split = SplitFrame::of(frame, id);
     let after = after_frame(&frame.bytes, id);

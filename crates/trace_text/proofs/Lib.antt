@@ -4,6 +4,7 @@ pub mod Fours
 pub mod DigitTables
 pub mod HexNibbles
 pub mod LongestLines
+pub mod Doubting
 pub mod SaidTables
 pub mod SaidTexts
 pub mod Widths

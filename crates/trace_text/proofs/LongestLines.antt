@@ -1,10 +1,11 @@
 -- How long lines are at most.
-use Rattle.std.proofs.Common.{◌≡◌, ℕ, zero, suc, ◌+◌, ◌*◌, ◌/◌, ◌^◌, ◌≤◌, ◌<◌, List, [], ◌∷◌, ◌++◌, length, length-append, Bool, true, false, refl, ap, arith}
+use Rattle.std.proofs.Common.{◌≡◌, ℕ, zero, suc, ◌+◌, ◌-◌, ◌*◌, ◌/◌, ◌^◌, ◌≤◌, ◌<◌, List, [], ◌∷◌, ◌++◌, length, take, length-append, Bool, true, false, refl, ap, arith}
 use Rattle.std.specs.Prelude.{codes, decimal, Option, None, Some, ◌==◌, nat_lt, if◌then◌else◌}
 use Rattle.std.specs.Option.{ForSome}
 use Rattle.std.specs.Fmt.{digits as fmt_digits}
 use Rattle.std.specs.Int.{to_be_bytes, w8, w16, w32}
 use Rattle.std.proofs.lemmas.Fmt.{length-decimal-le}
+use Rattle.std.proofs.lemmas.List.{length-take-le}
 use Rattle.std.proofs.Math.Nat.{pow-le-pow_right}
 use Rattle.std.proofs.lemmas.Bool.Decides.{nat_tests}
 use Rattle.std.proofs.lemmas.Bool.{false≢true}
@@ -55,7 +56,7 @@ use Rattle.trace_text.specs.HexDigits.{hex_digits}
 use Rattle.trace_text.specs.StpText.{known_text, width_text, mark_text, stamp_text, stp_text}
 use Rattle.trace_text.specs.declared.remark.Remark.{Remark}
 use Rattle.trace_text.specs.declared.remark.Remark.TheVariants.{None as NoRemark, Clock, Time}
-use Rattle.trace_text.specs.LineText.{half_text, source_text, what_text, remark_text, event_line, itm_event, stp_event, raw_event}
+use Rattle.trace_text.specs.LineText.{doubted, half_text, source_text, what_text, remark_text, event_line, itm_event, stp_event, raw_event}
 use Rattle.trace_text.specs.Printable.{IsProperWhat, IsNone, SuitsPacket, Suits, HasSource, IsPrintable}
 use Rattle.trace_text.specs.FaultText.{fault_line}
 use Rattle.trace_text.specs.Lengths.{HasDigits, IsShortWhat, IsShortSource, IsShortRemark, IsShort, IsShortFault}
@@ -266,3 +267,28 @@ source_end s a b c = simp length-append (omega (arith, kind s.kind, mode s.mode)
 -- what a line adds
 pub longer : (n : ℕ) (old new line : List ℕ) → new ≡ old ++ line → length line ≤ n → length new ≤ length old + n
 longer n old new line e h = omega (arith, ap length e, length-append old line)
+
+-- The line of an event or of a fault. One with the mark of a guess, which stands before its last byte, is longer by two
+-- bytes.
+pub longer_event : (old new line : List ℕ) → new ≡ old ++ line → length line ≤ 92 → length new ≤ length old + 94
+longer_event old new line e h = omega (arith, ap length e, length-append old line)
+
+pub longer_doubted : (old new line : List ℕ) → new ≡ old ++ doubted line → length line ≤ 92 →
+    length new ≤ length old + 94
+longer_doubted old new line e h =
+    let front = length-take-le (length line - 1) line (omega arith) in
+    omega (
+      arith,
+      h,
+      front,
+      ap length e,
+      length-append old (doubted line),
+      length-append (take (length line - 1) line) (codes " ?\n"),
+    )
+
+-- a line has a byte
+pub event_some : (s : Bool) (e : Event Packet) (r : Remark) → 0 < length (event_line s e r)
+event_some s e r = simp length-append (omega arith)
+
+pub fault_some : (s : Bool) (f : Place × (Reason × Option ℕ)) → 0 < length (fault_line s f)
+fault_some s f = simp length-append (omega arith)

@@ -1,11 +1,12 @@
 -- Which numbers and runs are as short as their types make them.
-use Rattle.std.specs.Prelude.{ℕ, ◌≤◌, length, decimal, Option, None, Some}
+use Rattle.std.specs.Prelude.{ℕ, ◌<◌, ◌+◌, ◌≤◌, List, length, decimal, Option, None, Some}
 use Rattle.trace_values.specs.declared.fault.Reason.{Reason}
 use Rattle.trace_values.specs.Placed.{Place}
 use Rattle.source_events.specs.declared.event.Event.{Event}
 use Rattle.source_events.specs.declared.event.What.{What}
 use Rattle.source_events.specs.declared.event.What.TheVariants.{Locked, Packet as Said, Raw, Trigger}
 use Rattle.source_events.specs.declared.packet.Packet.{Packet}
+use Rattle.trace_text.specs.declared.lines.TheConstants.{EVENT_ROOM}
 use Rattle.trace_text.specs.declared.remark.Remark.{Remark}
 use Rattle.trace_text.specs.declared.remark.Remark.TheVariants.{None as NoRemark, Clock, Time}
 
@@ -35,6 +36,10 @@ pub record IsShort (event : Event Packet) : Type 0 where
   pub half : HasDigits 3 event.half
   pub source : IsShortSource event.source
   pub what : IsShortWhat event.what
+
+-- a line has a byte, and beside it there is room for the mark of a guess
+abbrev pub IsShortLine : List ℕ → Type 0
+IsShortLine line = (0 < length line) × (length line + 2 ≤ EVENT_ROOM)
 
 -- what the types say of a fault with its source
 pub record IsShortFault (fault : Place × (Reason × Option ℕ)) : Type 0 where

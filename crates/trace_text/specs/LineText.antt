@@ -1,5 +1,5 @@
 -- The lines of what the sources and the port gave.
-use Rattle.std.specs.Prelude.{ℕ, List, [], ◌∷◌, ◌++◌, codes, decimal, Bool, true, false, Option, Some, None}
+use Rattle.std.specs.Prelude.{ℕ, ◌-◌, List, [], ◌∷◌, ◌++◌, codes, decimal, length, take, Bool, true, false, Option, Some, None}
 use Rattle.hex.specs.Hex.{encode_lower}
 use Rattle.itm_grammar.specs.declared.packet.ItmPacket.{ItmPacket}
 use Rattle.stp_grammar.specs.declared.item.StpItem.{StpItem}
@@ -65,3 +65,7 @@ stp_event at half id item = record { at = at; half = half; source = Some id; wha
 -- a run of bytes of this source, which is not mapped, the last of them here
 abbrev pub raw_event : ℕ → ℕ → List ℕ → Event Packet
 raw_event at id bytes = record { at = at; half = 0; source = Some id; what = Raw bytes }
+
+-- a line with the mark of a guess: ` ?` before the end of the line
+abbrev pub doubted : List ℕ → List ℕ
+doubted line = take (length line - 1) line ++ codes " ?\n"

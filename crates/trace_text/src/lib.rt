@@ -6,6 +6,7 @@ mod counts;
 mod digits;
 mod ends;
 mod faults;
+mod guesses;
 mod hardware;
 mod items;
 mod lengths;
@@ -26,6 +27,7 @@ pub use counts::{
 pub use digits::Digits;
 pub use ends::{EndLine, PortEndLine, SourceEndLine, TAILS_ROOM, print_tails};
 pub use faults::{FaultLine, print_fault};
+pub use guesses::{print_guess, print_misread};
 pub use lines::{EVENT_ROOM, print, put_line, put_raw_line, put_stp_line};
 pub use notes::{BufferLine, ImageLine, LastLine, LimitLine, ScriptFaultLine, SlippedLine};
 pub use remark::Remark;

@@ -25,8 +25,8 @@ use trace_stream::{OUTLET_ROOM, Outlet, TEXT_ROOM, Text};
 use trace_values::SourceId;
 
 /// The most bytes of the line of an event: those of a datum's at an offset of 20 digits, of a source of three, with
-/// a master and a channel of five, 64 bits, and a time of 20 digits.
-pub const EVENT_ROOM: usize = 92;
+/// a master and a channel of five, 64 bits, and a time of 20 digits; and of the mark of a guess.
+pub const EVENT_ROOM: usize = 94;
 
 /// Bytes that a remark is given: more than any has.
 const REMARK_ROOM: usize = 7 + NUMBER_ROOM;

@@ -17,5 +17,6 @@ mod vcd_plan;
 pub use dump::{PACKET_ROOM, ValueDump};
 pub use signals::{ASLEEP, EXCEPTION, FIRST_COMPARATOR, FIRST_PORT, LOST, PC, SIGNALS};
 pub use source_dump::SourceDump;
+pub use values::ALL_ROOM;
 pub use vcd::Vcd;
 pub use vcd_plan::VcdPlan;

@@ -1,11 +1,16 @@
 //! What puts the value dump of one source into an outlet, as the events of a capture come.
 
-ghost use Rattle.std.specs.Prelude.{◌≡◌, ◌+◌, ◌<◌, ◌≤◌, ◌∷◌, []};
+ghost use Rattle.std.specs.Prelude.{◌≡◌, ◌+◌, ◌<◌, ◌≤◌, ◌∷◌, ◌++◌, [], length, false, if◌then◌else◌};
 ghost use Rattle.source_events.specs.declared.event.What.TheVariants.{Packet as Said};
-ghost use Rattle.value_dump.specs.Names.{Event, IsProper, Itm, Packet};
+ghost use Rattle.value_dump.specs.Dumping.{hz_of, owed_by};
+ghost use Rattle.value_dump.specs.Header.{header};
+ghost use Rattle.value_dump.specs.Names.{ACTION_ROOM, Event, IsProper, Itm, OUTLET_ROOM, Packet};
 ghost use Rattle.value_dump.specs.SourceDump.{gets, room};
+ghost use Rattle.value_dump.specs.declared.header.TheConstants.{HEADER_ROOM};
+ghost use Rattle.value_dump.specs.declared.values.TheConstants.{ALL_ROOM};
 
 use crate::dump::{PACKET_ROOM, ValueDump};
+use crate::header::put_header;
 use itm_grammar::packet::ItmPacket;
 use source_events::{Event, Packet, SourceKind, What};
 use source_machine::Told;
@@ -22,6 +27,19 @@ pub struct SourceDump {
 }
 
 impl SourceDump {
+    /// Puts the header, if the dump is not begun.
+    pub fn begin(&self, outlet: &mut Outlet, is_begun: bool)
+        requires room { length outlet.old + ACTION_ROOM ≤ OUTLET_ROOM }
+        ensures text { outlet.new ≡ outlet.old ++ (if is_begun then [] else header (hz_of self.now.dump)) }
+        ensures bound { length outlet.new + owed_by self.now.dump ≤ length outlet.old + (HEADER_ROOM + ALL_ROOM) }
+        ensures fresh { (is_begun ≡ false → owed_by self.now.dump ≡ 0) →
+            length outlet.new + owed_by self.now.dump ≤ length outlet.old + ALL_ROOM }
+    {
+        if !is_begun {
+            put_header(outlet, self.dump.hz());
+        }
+    }
+
     /// Takes the next packet, which is of this source.
     fn put_packet(&mut self, outlet: &mut Outlet, source: Option<SourceId>, packet: &ItmPacket)
         requires proper { IsProper packet.now }

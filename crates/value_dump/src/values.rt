@@ -21,7 +21,7 @@ pub const LINE_ROOM: usize = 36;
 pub const TIME_ROOM: usize = 41;
 
 /// The most bytes of the lines of all signals.
-const ALL_ROOM: usize = LINE_ROOM * SIGNALS;
+pub const ALL_ROOM: usize = LINE_ROOM * SIGNALS;
 
 /// The value of each signal, and that which it had at the last local timestamp.
 #[derive(Drop)]

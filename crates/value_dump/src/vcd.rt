@@ -9,7 +9,6 @@ ghost use Rattle.value_dump.specs.Vcd.{beginning};
 ghost use Rattle.value_dump.specs.declared.values.TheConstants.{ALL_ROOM};
 
 use crate::dump::ValueDump;
-use crate::header::put_header;
 use crate::source_dump::SourceDump;
 use crate::vcd_plan::VcdPlan;
 use capture_actions::keep_stop;
@@ -57,9 +56,7 @@ impl Vcd {
             outlet.new ≡ outlet.old ++ beginning (plan_of self.now) seen }
         ensures bound { length outlet.new + owed_by self.now.source.dump ≤ length outlet.old + ALL_ROOM }
     {
-        if self.engine.next() == 0 {
-            put_header(outlet, self.source.dump.hz());
-        }
+        self.source.begin(outlet, self.engine.next() != 0);
     }
 
     /// The fault of the report, if it has one: the port's or a source's.

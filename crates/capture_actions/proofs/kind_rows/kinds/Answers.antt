@@ -22,3 +22,11 @@ returns-clause-fault c = refl
 pub returns-clause-framed : goal.returns-clause-framed
 unfolding digits hex_on_literals source_tails count_at words_text lines_by
 returns-clause-framed c = refl
+
+pub returns-clause-in_frame : goal.returns-clause-in_frame
+unfolding digits hex_on_literals source_tails count_at words_text lines_by
+returns-clause-in_frame c = refl
+
+pub returns-clause-of_port : goal.returns-clause-of_port
+unfolding digits hex_on_literals source_tails count_at words_text lines_by
+returns-clause-of_port c = refl

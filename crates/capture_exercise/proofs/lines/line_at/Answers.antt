@@ -1,10 +1,5 @@
-use Rattle.std.proofs.Common.{subst, sym, ◌∙◌, ap}
-use Rattle.std.specs.Prelude.{◌∷◌, []}
-use Rattle.script_text.specs.declared.version_two.Line2.{Line2}
-use Rattle.trace_vectors.specs.declared.made.Made.{Made}
-use Rattle.trace_vectors.specs.Items.{IsProperMade}
-use Rattle.script_rebuild.specs.Script.{in_order}
-use Rattle.script_rebuild.specs.Writer.{CanBePut2}
+use Rattle.std.proofs.Common.{subst, sym, ◌∙◌, ap, ◌∷◌, []}
+use Rattle.capture_exercise.specs.Names.{Line2, Made, IsProperMade, in_order, CanBePut2}
 use Rattle.capture_exercise.specs.Exercise.{line_of_made}
 use Rattle.capture_exercise.proofs.Saying.{line_said}
 use Rattle.capture_exercise.proofs.lines.line_at.Goals as goal

@@ -1,5 +1,5 @@
 use Rattle.std.proofs.Common.{ℕ, refl, List, length, ap, ◌∙◌, subst, arith}
-use Rattle.trace_io.specs.Bytes.{AppendsPrefix}
+use Rattle.capture_exercise.specs.Names.{AppendsPrefix}
 use Rattle.capture_exercise.specs.Exercise.{exercise_capture}
 use Rattle.capture_exercise.specs.Maker.{to_come}
 use Rattle.capture_exercise.specs.Source.{left_of, pending}

@@ -1,5 +1,5 @@
 use Rattle.std.proofs.Common.{◌≡◌, ◌≤◌, length, []}
-use Rattle.trace_io.specs.Bytes.{TakesFront}
+use Rattle.capture_exercise.specs.Names.{TakesFront}
 use Rattle.capture_exercise.specs.Exercise.{exercise_capture}
 use Rattle.capture_exercise.specs.Source.{items_of, pending, left_of, made_by}
 use Rattle.capture_exercise.proofs.writing.write_exercise.Given as goal

@@ -1,14 +1,10 @@
-use Rattle.std.proofs.Common.{refl}
-use Rattle.capture_words.specs.declared.recover.Recover.TheVariants.{Off, On}
-use Rattle.capture_run.proofs.Running.{same_check}
+use Rattle.std.proofs.Common.{None, refl, sym, ◌∙◌}
+use Rattle.capture_words.specs.Values.{guesses_of}
+use Rattle.capture_run.specs.Actions.{checking}
+use Rattle.capture_run.proofs.Running.{same_run}
 use Rattle.capture_run.proofs.jobs.run_check.Goals as goal
 
-pub returns-in-Off-clause-ran : goal.returns-in-Off-clause-ran
-returns-in-Off-clause-ran g c =
-    same_check c.args.recover Off c.args.kinds c.args.plan c.args.plan c.args.limit _ _ _ c.in-Off.is refl
-    c.run_summary.ensures.ran
-
-pub returns-in-On-clause-ran : goal.returns-in-On-clause-ran
-returns-in-On-clause-ran g c =
-    same_check c.args.recover On c.args.kinds _ c.args.plan c.args.limit _ _ _ c.in-On.is c.new-action.ensures.plan
-    c.run_action.ensures.ran
+pub returns-in-None-clause-ran : goal.returns-in-None-clause-ran
+returns-in-None-clause-ran g c =
+    same_run (λ o. checking o c.args.kinds) c.args.limit _ _ _ (guesses_of c.args.recover) None c.args.plan c.args.plan
+    (sym c.guesses.ensures ∙ c.in-None.is) refl c.run_summary.ensures.ran

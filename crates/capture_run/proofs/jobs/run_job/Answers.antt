@@ -3,8 +3,7 @@ use Rattle.capture_words.specs.declared.job.Task.TheVariants.{Check, Show, Text,
 use Rattle.capture_run.specs.Actions.{HasDone}
 use Rattle.capture_run.specs.Run.{Streams, streams}
 use Rattle.capture_run.specs.declared.status.Status.{Status}
-use Rattle.capture_run.proofs.Running.{done_unopened, same_dump, same_task}
-use Rattle.value_dump.specs.declared.vcd_plan.VcdPlan.{VcdPlan}
+use Rattle.capture_run.proofs.Running.{done_unopened, same_task}
 use Rattle.capture_run.proofs.jobs.run_job.Goals as goal
 
 pub returns-in-Show-clause-ran : goal.returns-in-Show-clause-ran
@@ -25,9 +24,7 @@ returns-in-Text-clause-ran g c =
 pub returns-in-Vcd-clause-ran : goal.returns-in-Vcd-clause-ran
 returns-in-Vcd-clause-ran g c =
     let t = c.in-Vcd in
-    let plan : VcdPlan = record { plan = t.plan; hz = t.hz } in
-    same_task c.args.job.task (Vcd t.plan t.hz) c.args.job.limit _ _ _ t.is
-    (same_dump _ plan c.args.job.limit _ _ _ c.new-action-in-Vcd.ensures.plan c.run_action-in-Vcd.ensures.ran)
+    same_task c.args.job.task (Vcd t.plan t.hz t.recover) c.args.job.limit _ _ _ t.is c.run_vcd.ensures.ran
 
 pub returns-in_default-clause-ran : goal.returns-in_default-clause-ran
 returns-in_default-clause-ran g c =

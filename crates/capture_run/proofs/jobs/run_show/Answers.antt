@@ -1,13 +1,17 @@
-use Rattle.capture_words.specs.declared.recover.Recover.TheVariants.{Off, On}
-use Rattle.capture_run.proofs.Running.{same_show}
+use Rattle.std.proofs.Common.{None, Some, refl, sym, ◌∙◌}
+use Rattle.capture_words.specs.Values.{guesses_of}
+use Rattle.capture_run.specs.Actions.{going_on, listing_on, showing}
+use Rattle.capture_run.proofs.Running.{same_plan, same_run}
 use Rattle.capture_run.proofs.jobs.run_show.Goals as goal
 
-pub returns-in-Off-clause-ran : goal.returns-in-Off-clause-ran
-returns-in-Off-clause-ran g c =
-    same_show c.args.recover Off _ c.args.plan c.args.limit _ _ _ c.in-Off.is c.new-action.ensures.plan
-    c.run_action.ensures.ran
+pub returns-in-None-clause-ran : goal.returns-in-None-clause-ran
+returns-in-None-clause-ran g c =
+    same_run showing c.args.limit _ _ _ (guesses_of c.args.recover) None _ c.args.plan
+    (sym c.guesses.ensures ∙ c.in-None.is) c.new-action.ensures.plan c.run_action.ensures.ran
 
-pub returns-in-On-clause-ran : goal.returns-in-On-clause-ran
-returns-in-On-clause-ran g c =
-    same_show c.args.recover On _ c.args.plan c.args.limit _ _ _ c.in-On.is c.new-action-in-On.ensures.plan
-    c.run_action-in-On.ensures.ran
+pub returns-in-Some-clause-ran : goal.returns-in-Some-clause-ran
+returns-in-Some-clause-ran g c =
+    same_run showing c.args.limit _ _ _ (guesses_of c.args.recover) (Some c.in-Some.guesses) c.args.plan c.args.plan
+    (sym c.guesses.ensures ∙ c.in-Some.is) refl
+    (same_plan listing_on c.args.limit _ _ _ _ (going_on c.args.plan c.in-Some.guesses)
+    c.new-action-in-Some.ensures.plan c.run_action-in-Some.ensures.ran)

@@ -1,14 +1,16 @@
-use Rattle.std.proofs.Common.{refl}
-use Rattle.capture_words.specs.declared.recover.Recover.TheVariants.{Off, On}
-use Rattle.capture_run.proofs.Running.{same_text}
+use Rattle.std.proofs.Common.{None, Some, refl, sym, ◌∙◌}
+use Rattle.capture_words.specs.Values.{guesses_of}
+use Rattle.capture_run.specs.Actions.{texting, going_on}
+use Rattle.capture_run.proofs.Running.{same_run}
 use Rattle.capture_run.proofs.jobs.run_text.Goals as goal
 
-pub returns-in-Off-clause-ran : goal.returns-in-Off-clause-ran
-returns-in-Off-clause-ran g c =
-    same_text c.args.recover Off _ c.args.plan c.args.limit _ _ _ c.in-Off.is c.new-action.ensures.plan
-    c.run_action.ensures.ran
+pub returns-in-None-clause-ran : goal.returns-in-None-clause-ran
+returns-in-None-clause-ran g c =
+    same_run texting c.args.limit _ _ _ (guesses_of c.args.recover) None _ c.args.plan
+    (sym c.guesses.ensures ∙ c.in-None.is) c.new-action.ensures.plan c.run_action.ensures.ran
 
-pub returns-in-On-clause-ran : goal.returns-in-On-clause-ran
-returns-in-On-clause-ran g c =
-    same_text c.args.recover On c.args.plan c.args.plan c.args.limit _ _ _ c.in-On.is refl
-    (c.run_opened.ensures.ran c.args.plan c.open-opened.ensures.plan)
+pub returns-in-Some-clause-ran : goal.returns-in-Some-clause-ran
+returns-in-Some-clause-ran g c =
+    same_run texting c.args.limit _ _ _ (guesses_of c.args.recover) (Some c.in-Some.guesses) c.args.plan c.args.plan
+    (sym c.guesses.ensures ∙ c.in-Some.is) refl
+    (c.run_opened.ensures.ran (going_on c.args.plan c.in-Some.guesses) c.open-opened.ensures.plan)

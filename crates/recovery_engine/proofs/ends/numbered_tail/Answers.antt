@@ -16,12 +16,12 @@ id_is n x e = by (nat_le n 126) e where
   by false k = cc
 
 pub returns-clause-tail : goal.returns-clause-tail
-returns-clause-tail c = λ parts k.
+returns-clause-tail c = λ guesses parts k.
     let plan = c.args.plan.now in
     let x = c.in_ok-id.id in
     subst (λ n. all_of c.source_tail.result ≡ tail_by plan parts n (kind_of plan n))
     (id_is c.args.number x (sym c.new.ensures ∙ c.in_ok-id.was))
-    (tail_is plan x c.in_ok-kind.kind (sym c.kind_of.ensures ∙ c.in_ok-kind.was) parts
+    (tail_is plan x c.in_ok-kind.kind (sym c.kind_of.ensures ∙ c.in_ok-kind.was) guesses parts
     (source_at c.args.slots.now x) c.source_tail.result c.source_tail.ensures (k x))
 
 pub returns-clause-found : goal.returns-clause-found

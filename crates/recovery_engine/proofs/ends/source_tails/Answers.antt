@@ -1,4 +1,5 @@
-use Rattle.std.proofs.Common.{◌+◌, [], ◌∷◌, ◌++◌, length, sym, ◌∙◌, ap, append-nil, arith, length-append}
+use Rattle.std.proofs.Common.{◌≡◌, ◌+◌, [], ◌∷◌, ◌++◌, length, sym, ◌∙◌, ap, append-nil, arith, length-append}
+use Rattle.trace_values.specs.declared.limits.TheConstants.{ID_COUNT}
 use Rattle.source_merge.proofs.Ending.{below_all, below_more, below_found}
 use Rattle.recovery_report.specs.Report.{source_tails}
 use Rattle.recovery_engine.proofs.Ending.{any_at, as_slots, length-as_slots, no_tails, tails_more}
@@ -8,7 +9,7 @@ use Rattle.recovery_engine.proofs.ends.source_tails.Goals.{in-Some, in_default}
 pub loop-number-init : goal.loop-number-init
 loop-number-init c = record {
   few = (let a = ap length c.new-tails.ensures in omega arith);
-  tails = λ parts k. c.new-tails.ensures ∙ no_tails c.args.plan.now parts;
+  tails = λ guesses parts k. c.new-tails.ensures ∙ no_tails c.args.plan.now parts;
 }
 
 pub push-requires : goal.push-requires
@@ -33,9 +34,9 @@ loop-number-preserved c =
                 let b = ap length (w.tails-is ∙ w.push.ensures) in
                 let d = length-append c.loop-number.tails (w.in-Some.tail ∷ []) in let e = c.loop-number.invariant.few in
                 omega (arith, a, b, d, e));
-            tails = λ parts k.
-                w.tails-is ∙ w.push.ensures ∙ ap (λ l. l ++ w.in-Some.tail ∷ []) (c.loop-number.invariant.tails parts k)
-                ∙ ap (λ l. source_tails plan parts n ++ l) (w.in-Some.ensures.tail parts k)
+            tails = λ guesses parts k.
+                w.tails-is ∙ w.push.ensures ∙ ap (λ l. l ++ w.in-Some.tail ∷ []) (c.loop-number.invariant.tails guesses parts k)
+                ∙ ap (λ l. source_tails plan parts n ++ l) (w.in-Some.ensures.tail guesses parts k)
                 ∙ sym (tails_more plan parts n);
           }
       | in_default w ↦
@@ -43,9 +44,14 @@ loop-number-preserved c =
             few =
                 (let a = below_more n (as_slots slots) in let b = ap length w.tails-is in
                 let e = c.loop-number.invariant.few in omega (arith, a, b, e));
-            tails = λ parts k.
-                w.tails-is ∙ c.loop-number.invariant.tails parts k ∙ sym (append-nil (source_tails plan parts n))
-                ∙ ap (λ l. source_tails plan parts n ++ l) (w.in_default.ensures.tail parts k)
+            tails = λ guesses parts k.
+                w.tails-is ∙ c.loop-number.invariant.tails guesses parts k ∙ sym (append-nil (source_tails plan parts n))
+                ∙ ap (λ l. source_tails plan parts n ++ l) (w.in_default.ensures.tail guesses parts k)
                 ∙ sym (tails_more plan parts n);
           }
     ]
+
+pub returns : goal.returns
+returns c = λ guesses parts k.
+    let all : c.loop-number.number ≡ ID_COUNT = omega (arith, c.loop-number.auto.number-end, c.loop-number-test.false) in
+    c.loop-number.invariant.tails guesses parts k ∙ ap (λ n. source_tails c.args.plan.now parts n) all

@@ -1,4 +1,4 @@
-use Rattle.std.proofs.Common.{◌≡◌, ◌≤◌, List, length}
+use Rattle.std.proofs.Common.{◌≡◌, ◌≤◌, List, Bool, length}
 use Rattle.source_merge.proofs.Ending.{below}
 use Rattle.recovery_report.specs.Report.{Part, source_tails}
 use Rattle.recovery_engine.specs.Slots.{StandFor}
@@ -8,5 +8,6 @@ use Rattle.recovery_engine.proofs.ends.source_tails.Given as goal
 abbrev pub invariant-loop-number : goal.invariant-loop-number
 invariant-loop-number l = record {
   few : length l.tails ≤ below l.number (as_slots l.slots);
-  tails : (parts : List Part) → StandFor l.plan parts l.slots → l.tails ≡ source_tails l.plan parts l.number;
+  tails : (guesses : Bool) (parts : List Part) → StandFor guesses l.plan parts l.slots →
+      l.tails ≡ source_tails l.plan parts l.number;
 }

@@ -10,7 +10,7 @@ pub returns-in_default-clause-takes : goal.returns-in_default-clause-takes
 returns-in_default-clause-takes g c = (
   [],
   g.met.V.Hearer.gets_none (c.args.out.now, c.args.to.now),
-  λ plan parts k. grown_none plan parts (g.R.Run.cells c.args.run.now) c.args.slots.now
+  λ guesses plan parts k. grown_none guesses plan parts (g.R.Run.cells c.args.run.now) c.args.slots.now
       (c.requires.own.own ∙ c.in_default.is) k,
 )
 
@@ -24,8 +24,9 @@ returns-then-not-take_own-clause-takes g c =
           (c.give_raw.new.out, c.give_raw.new.to)) other.1
           (subst (λ t. g.V.Hearer.gets (c.take_own.new.out, t) (told (Some x) (raw_events x run))
           (c.give_raw.new.out, c.give_raw.new.to)) other.2 c.give_raw.ensures.given),
-      λ plan parts k. subst (λ l. Grown plan parts (Run run ∷ []) l (told (Some x) (raw_events x run))) (sym other.0)
-          (grown_raw plan parts run x c.args.slots.now (c.requires.own.own ∙ c.in-Some.is) other.3 k),
+      λ guesses plan parts k.
+          subst (λ l. Grown guesses plan parts (Run run ∷ []) l (told (Some x) (raw_events x run))) (sym other.0)
+          (grown_raw guesses plan parts run x c.args.slots.now (c.requires.own.own ∙ c.in-Some.is) other.3 k),
     )
 
 pub returns-else-not-take_own-clause-takes : goal.returns-else-not-take_own-clause-takes

@@ -34,8 +34,8 @@ returns-in-Locked-clause-takes g c =
     (c.args.slots.now, (c.hear.new.self, c.hear.new.to))) (sym c.in-Locked.is) (
       _,
       c.hear.ensures.gets,
-      λ plan parts k.
-          grown_lock plan parts (0 + c.in-Locked.skipped) c.in-Locked.skipped place c.args.slots.now
+      λ guesses plan parts k.
+          grown_lock guesses plan parts (0 + c.in-Locked.skipped) c.in-Locked.skipped place c.args.slots.now
           (let e : c.in-Locked.skipped ≡ 0 + c.in-Locked.skipped = omega arith in e) k,
     )
 
@@ -48,6 +48,6 @@ returns-in-Fault-clause-takes g c =
     (c.cut_all.new.slots, (c.hear-in-Fault.new.self, c.hear-in-Fault.new.to))) (sym c.in-Fault.is) (
       _,
       c.hear-in-Fault.ensures.gets,
-      λ plan parts k. grown_break plan parts f.reason place c.args.slots.now c.cut_all.new.slots
+      λ guesses plan parts k. grown_break guesses plan parts f.reason place c.args.slots.now c.cut_all.new.slots
           c.cut_all.ensures.cut k,
     )

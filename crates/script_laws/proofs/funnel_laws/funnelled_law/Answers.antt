@@ -1,8 +1,6 @@
 use Rattle.std.proofs.Common.{List, subst}
+use Rattle.script_laws.specs.Names.{all_placed, script_of, Line2}
 use Rattle.script_rebuild.proofs.Whole.{text_and_ending}
-use Rattle.script_rebuild.specs.RoutedLaws.{all_placed}
-use Rattle.script_rebuild.specs.Versions.{script_of}
-use Rattle.script_text.specs.declared.version_two.Line2.{Line2}
 use Rattle.script_laws.specs.ReadBack.{rebuilt, ReadsAsGiven}
 use Rattle.script_laws.proofs.Ported.{script_reads}
 use Rattle.script_laws.proofs.funnel_laws.funnelled_law.Goals as goal

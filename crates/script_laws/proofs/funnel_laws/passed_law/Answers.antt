@@ -1,6 +1,5 @@
 use Rattle.std.proofs.Common.{sym, ◌∙◌}
-use Rattle.frame_writer.specs.Written.{joined}
-use Rattle.port_formatter.specs.Passed.{all_passed}
+use Rattle.script_laws.specs.Names.{joined, all_passed}
 use Rattle.script_laws.proofs.Kept.{all_kept, to_same}
 use Rattle.script_laws.proofs.funnel_laws.passed_law.Goals as goal
 

@@ -1,4 +1,4 @@
-use Rattle.script_rebuild.specs.Versions.{lines_in}
+use Rattle.script_laws.specs.Names.{lines_in}
 use Rattle.script_laws.proofs.Texts.{all_of, ends_of, only_reading}
 use Rattle.script_laws.proofs.rebuild_laws.lines_law.Goals as goal
 

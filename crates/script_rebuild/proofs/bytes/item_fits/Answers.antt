@@ -1,12 +1,6 @@
 use Rattle.std.proofs.Common.{◌≡◌, List, sym, ◌∙◌, ap, subst, Result, Err}
-use Rattle.stp_encoder.specs.Puts.{items_in}
+use Rattle.script_rebuild.specs.Names.{items_in, as_one, Item, Stp, LineFault, Of, One}
 use Rattle.port_formatter.specs.Formatter.{turns_of}
-use Rattle.script_text.specs.VersionTwo.{as_one}
-use Rattle.script_text.specs.declared.items.Item.{Item}
-use Rattle.script_text.specs.declared.items.Item.TheVariants.{Stp}
-use Rattle.script_text.specs.declared.line_fault.LineFault.{LineFault}
-use Rattle.script_text.specs.declared.lines.Line.TheVariants.{Of}
-use Rattle.script_text.specs.declared.version_two.Line2.TheVariants.{One}
 use Rattle.script_rebuild.specs.Encoding.{NextItem, AreReady, line_for}
 use Rattle.script_rebuild.specs.Routed.{line_if}
 use Rattle.script_rebuild.specs.Versions.{fitting_item}

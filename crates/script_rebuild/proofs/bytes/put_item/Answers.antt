@@ -1,11 +1,7 @@
 use Rattle.std.proofs.Common.{◌≡◌, refl, List, length, sym, ◌∙◌, ap, subst, true, false, Ok, rules}
 use Rattle.std.specs.List.{refill}
-use Rattle.dwt_packets.specs.Packet.{packet}
-use Rattle.itm_grammar.specs.Shortest.{short}
-use Rattle.port_formatter.specs.Formatter.{Puts, turns_of}
-use Rattle.port_formatter.specs.Port.{has_place}
-use Rattle.script_text.specs.declared.items.Item.{Item}
-use Rattle.script_text.specs.declared.items.Item.TheVariants.{Itm, Dwt, Stp, Raw}
+use Rattle.script_rebuild.specs.Names.{packet, short, Puts, has_place, Item, Itm, Dwt, Stp, Raw}
+use Rattle.port_formatter.specs.Formatter.{turns_of}
 use Rattle.script_rebuild.specs.declared.encoders.SourceEncoder.{SourceEncoder}
 use Rattle.script_rebuild.specs.Encoding.{ids_in, NextItem, Left, AreReady, Answers, IsPut}
 use Rattle.script_rebuild.specs.Script.{hardware, tagged}

@@ -1,14 +1,11 @@
-use Rattle.std.proofs.Common.{◌≡◌, refl, ℕ, ◌+◌, ◌*◌, ◌≤◌, List, length, sym, ◌∙◌, ap, subst, true, false, None, arith, rules}
-use Rattle.std.specs.List.{position}
-use Rattle.std.specs.Prelude.{◌==◌}
-use Rattle.stp_grammar.specs.declared.packet.Order.{Order}
-use Rattle.stp_encoder.specs.Bytes.{put_bytes}
-use Rattle.port_formatter.specs.Formatter.{Puts, turns_of}
-use Rattle.script_text.specs.declared.items.Item.TheVariants.{Stp}
+use Rattle.std.proofs.Common.{◌≡◌, refl, ℕ, ◌+◌, ◌*◌, ◌≤◌, List, length, sym, ◌∙◌, ap, subst, true, false, None, arith}
+use Rattle.std.proofs.Common.{rules, position, ◌==◌}
+use Rattle.script_rebuild.specs.Names.{Order, put_bytes, Puts, Stp}
+use Rattle.port_formatter.specs.Formatter.{turns_of}
 use Rattle.script_rebuild.specs.Script.{tagged}
 use Rattle.script_rebuild.specs.Encoding.{NextItem}
 use Rattle.script_rebuild.proofs.Answering.{stp_line, item_placed_by}
-use Rattle.script_rebuild.proofs.EachEncoder.{none_of, ids_kept, found_of, stands_of, all_after}
+use Rattle.script_rebuild.proofs.EachEncoder.{none_of, ids_kept, found_in, all_after}
 use Rattle.script_rebuild.proofs.Rooms.{less_room}
 use Rattle.script_rebuild.proofs.bytes.put_stp.Goals as goal
 
@@ -44,32 +41,27 @@ returns-in-Ok-clause-puts c = λ order given ready.
     let one = c.index-encoders-index.result in
     let funnel = turns_of c.args.formatter.now in
     let next : NextItem = record { order = order; given = given; id = id; item = Stp item } in
-    let found = found_of slots id i one (sym c.find.ensures ∙ c.in-Some.is) in
-    let stands = stands_of next slots i one ready found.0 found.1 in
-    let bytes = c.as_slice.ensures.value ∙ c.in-Ok.ensures.bytes (given id) stands.1
-    ∙ ap (λ (o : Order). put_bytes o (given id) item) stands.0 in
+    let found = found_in next slots i one (sym c.find.ensures ∙ c.in-Some.is) ready in
+    let bytes = c.as_slice.ensures.value ∙ c.in-Ok.ensures.bytes (given id) found.stands
+    ∙ ap (λ (o : Order). put_bytes o (given id) item) found.order in
     record {
-      told = stp_line funnel next item false refl (sym (c.in-Ok.ensures.fits (given id) stands.1))
+      told = stp_line funnel next item false refl (sym (c.in-Ok.ensures.fits (given id) found.stands))
           ∙ item_placed_by funnel id (Stp item) true c.requires.place;
       put = record {
         place = c.requires.place;
-        stand = all_after order slots given id i item one c.put.new.self ready found.0 found.1 (c.put.ensures.order ∙ stands.0)
-            (c.in-Ok.ensures.list (given id) stands.1);
+        stand = all_after order slots given id i item one c.put.new.self ready found.within found.at (c.put.ensures.order ∙ found.order)
+            (c.in-Ok.ensures.list (given id) found.stands);
         put = subst (λ (b : List ℕ). Puts c.args.formatter.now c.put_all.new.self (tagged id b)) bytes c.put_all.ensures.put;
       };
     }
 
 pub returns-in-Err-clause-puts : goal.returns-in-Err-clause-puts
 returns-in-Err-clause-puts c = λ order given ready.
-    let slots = c.args.encoders.now in
-    let id = c.args.id in
-    let i = c.in-Some.index in
-    let one = c.index-encoders-index.result in
-    let next : NextItem = record { order = order; given = given; id = id; item = Stp c.args.item.now } in
-    let found = found_of slots id i one (sym c.find.ensures ∙ c.in-Some.is) in
-    let stands = stands_of next slots i one ready found.0 found.1 in
+    let next : NextItem = record { order = order; given = given; id = c.args.id; item = Stp c.args.item.now } in
+    let found = found_in next c.args.encoders.now c.in-Some.index c.index-encoders-index.result
+    (sym c.find.ensures ∙ c.in-Some.is) ready in
     record {
-      told = stp_line (turns_of c.args.formatter.now) next c.args.item.now true refl (sym (c.in-Err.ensures.fits (given id) stands.1));
+      told = stp_line (turns_of c.args.formatter.now) next c.args.item.now true refl (sym (c.in-Err.ensures.fits (given c.args.id) found.stands));
       put = tt;
     }
 

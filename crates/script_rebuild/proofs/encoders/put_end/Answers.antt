@@ -1,8 +1,5 @@
 use Rattle.std.proofs.Common.{◌≡◌, ℕ, List, [], sym, ◌∙◌, ap, subst}
-use Rattle.stp_grammar.specs.declared.packet.Order.{Order}
-use Rattle.stp_encoder.specs.Bytes.{end_bytes}
-use Rattle.port_formatter.specs.Formatter.{Puts}
-use Rattle.port_formatter.specs.declared.formatter.Formatter.{Formatter}
+use Rattle.script_rebuild.specs.Names.{Order, end_bytes, Puts, Formatter}
 use Rattle.script_rebuild.specs.Script.{tagged}
 use Rattle.script_rebuild.proofs.EndsPut.{nothing_put}
 use Rattle.script_rebuild.proofs.encoders.put_end.Goals.{then-takes, else-takes}

@@ -1,12 +1,12 @@
-use Rattle.std.proofs.Common.{rules, ◌≡◌, ◌<◌, ◌≤◌, ◌+◌, ◌*◌, ◌++◌, ◌∷◌, [], ℕ, List, length, get_or, take, ◌∙◌, ap, sym, subst, arith}
+use Rattle.std.proofs.Common.{rules, ◌≡◌, ◌<◌, ◌≤◌, ◌+◌, ◌*◌, ◌++◌, ◌∷◌, [], ℕ, List, length, get_or, take, ◌∙◌, ap}
+use Rattle.std.proofs.Common.{sym, subst, arith, Option}
 use Rattle.std.proofs.lemmas.List.{length-map, length-take-le, map-append, take_all}
 use Rattle.port_formatter.specs.Formatter.{turns_of}
-use Rattle.trace_funnel.specs.declared.turns.Turns.{Turns}
 use Rattle.script_rebuild.specs.declared.encoders.SourceEncoder.{SourceEncoder}
 use Rattle.script_rebuild.specs.Encoding.{ids_in, StandsFor, KeepsPlaced, flushed}
-use Rattle.std.specs.Prelude.{Option}
 use Rattle.script_rebuild.proofs.EndsPut.{AreEnding, none_ending, ids_more, one_put, all_flushed}
 use Rattle.std.proofs.lemmas.List.Elements.{All-push}
+use Rattle.script_rebuild.specs.Names.{Turns}
 use Rattle.script_rebuild.proofs.Rooms.{less_room}
 use Rattle.script_rebuild.proofs.encoders.put_kept.Goals as goal
 

@@ -1,34 +1,22 @@
 use Rattle.std.proofs.Common.{◌+◌, ◌∙◌, refl, sym, ap, subst, arith, Err, Result, Some}
-use Rattle.script_text.specs.declared.items.Item.TheVariants.{Itm}
-use Rattle.script_text.specs.declared.lines.Line.TheVariants.{Of}
-use Rattle.script_text.specs.declared.version_two.Line2.{Line2}
-use Rattle.script_text.specs.declared.version_two.Line2.TheVariants.{One}
-use Rattle.script_text.specs.declared.quick.PacketLine.{PacketLine}
-use Rattle.script_text.specs.Quick.{IsPacketOf}
-use Rattle.script_text.specs.declared.line_fault.LineFault.{LineFault}
-use Rattle.script_text.specs.Lines.{answer, ◌>>=◌}
+use Rattle.script_rebuild.specs.Names.{Itm, Of, Line2, One, PacketLine, IsPacketOf, LineFault, answer}
+use Rattle.script_text.specs.Lines.{◌>>=◌}
 use Rattle.script_rebuild.specs.PutLine.{fits_after}
 use Rattle.script_rebuild.specs.Rebuilt.{port_of}
 use Rattle.script_rebuild.specs.Routed.{placed}
 use Rattle.script_rebuild.specs.Writer.{CanBePut, stp_of}
 use Rattle.script_rebuild.proofs.Rooms.{less_room}
-use Rattle.script_rebuild.proofs.Sources.{says_same, says_fault, puts_said, unfit_said, packet_read, packet_said, can_be_put, there}
+use Rattle.script_rebuild.specs.ReadingLaws.{says_fault}
+use Rattle.script_rebuild.proofs.Sources.{says_same, puts_said, packet_read, packet_said}
+use Rattle.script_rebuild.proofs.Sources.{can_be_put, there}
 use Rattle.script_rebuild.proofs.rebuild.put_line.Goals as goal
 
-pub returns-in-Ok-clause-ok : goal.returns-in-Ok-clause-ok
-returns-in-Ok-clause-ok c = λ lines s.
+pub returns-in-Ok-clause-puts : goal.returns-in-Ok-clause-puts
+returns-in-Ok-clause-puts c = λ lines s.
     let p = c.args.plan.now in
     let line = c.read_into.new.said in
     let read = c.read_into.ensures.value ∙ ap (λ (r : Result (Unit {0}) LineFault). answer r line) c.in-Ok.is in
     puts_said p c.args.version c.args.text.now c.args.writer.now _ lines (One line) c.requires.plan
-    (says_same p.plan c.args.version lines c.args.text.now line read) c.put-in-Ok.result (c.put-in-Ok.ensures.puts (port_of p) lines s)
-
-pub returns-in-Ok-clause-err : goal.returns-in-Ok-clause-err
-returns-in-Ok-clause-err c = λ lines s.
-    let p = c.args.plan.now in
-    let line = c.read_into.new.said in
-    let read = c.read_into.ensures.value ∙ ap (λ (r : Result (Unit {0}) LineFault). answer r line) c.in-Ok.is in
-    unfit_said p c.args.version c.args.text.now c.args.writer.now _ lines (One line) c.requires.plan
     (says_same p.plan c.args.version lines c.args.text.now line read) c.put-in-Ok.result (c.put-in-Ok.ensures.puts (port_of p) lines s)
 
 pub put-requires-clause-said : goal.put-requires-clause-said
@@ -38,24 +26,14 @@ put-requires-clause-said c =
     let said = packet_said c.args.plan.now.plan c.args.text.now c.in-Some.found says kind in
     (said.0, said.1, said.2, tt)
 
-pub returns-in-Some-Itm-clause-ok : goal.returns-in-Some-Itm-clause-ok
-returns-in-Some-Itm-clause-ok c = λ lines s.
+pub returns-in-Some-Itm-clause-puts : goal.returns-in-Some-Itm-clause-puts
+returns-in-Some-Itm-clause-puts c = λ lines s.
     let p = c.args.plan.now in
     let line = Of c.in-Some.found.id (Itm c.in-Some.found.packet) in
     let says = there (λ (p : PacketLine). IsPacketOf c.args.text.now p.id p.packet) c.args.found.now c.in-Some.found c.in-Some.is c.requires.text.1 in
     let kind = sym c.kind_of.ensures ∙ c.in-Some-Itm.is ∙ ap Some c.in-Some-Itm.field-0-is in
     let read = packet_read p.plan c.args.text.now c.in-Some.found says kind c.requires.text.0 in
     puts_said p c.args.version c.args.text.now c.args.writer.now _ lines (One line) c.requires.plan
-    (says_same p.plan c.args.version lines c.args.text.now line read) c.put.result (c.put.ensures.puts (port_of p) lines s)
-
-pub returns-in-Some-Itm-clause-err : goal.returns-in-Some-Itm-clause-err
-returns-in-Some-Itm-clause-err c = λ lines s.
-    let p = c.args.plan.now in
-    let line = Of c.in-Some.found.id (Itm c.in-Some.found.packet) in
-    let says = there (λ (p : PacketLine). IsPacketOf c.args.text.now p.id p.packet) c.args.found.now c.in-Some.found c.in-Some.is c.requires.text.1 in
-    let kind = sym c.kind_of.ensures ∙ c.in-Some-Itm.is ∙ ap Some c.in-Some-Itm.field-0-is in
-    let read = packet_read p.plan c.args.text.now c.in-Some.found says kind c.requires.text.0 in
-    unfit_said p c.args.version c.args.text.now c.args.writer.now _ lines (One line) c.requires.plan
     (says_same p.plan c.args.version lines c.args.text.now line read) c.put.result (c.put.ensures.puts (port_of p) lines s)
 
 pub put-requires-in-Ok-clause-said : goal.put-requires-in-Ok-clause-said
@@ -67,13 +45,16 @@ pub returns-in_default-fault : goal.returns-in_default-fault
 returns-in_default-fault c = record {
   plan = c.requires.plan;
   same = refl;
-  ok = λ lines s. tt;
-  err = λ lines s.
+  puts = λ lines s.
       let p = c.args.plan.now in
-      ap (λ (r : Result Line2 LineFault). r >>= placed p.funnel)
-      (says_fault p.plan c.args.version lines c.args.text.now c.in-Err.fault
-      (c.read_into.ensures.value ∙ ap (λ (r : Result (Unit {0}) LineFault). answer r c.read_into.new.said) c.in-Err.is)
-      c.in_default-fault.not-BadLine);
+      record {
+        ok = tt;
+        err =
+            ap (λ (r : Result Line2 LineFault). r >>= placed p.funnel)
+            (says_fault p.plan c.args.version lines c.args.text.now c.in-Err.fault
+            (c.read_into.ensures.value ∙ ap (λ (r : Result (Unit {0}) LineFault). answer r c.read_into.new.said) c.in-Err.is)
+            c.in_default-fault.not-BadLine);
+      };
   count = omega arith;
   room = λ more h. less_room c.args.writer.now.formatter (200 + more) more (omega arith) h;
 }
@@ -81,18 +62,10 @@ returns-in_default-fault c = record {
 pub put2-requires-clause-said : goal.put2-requires-clause-said
 put2-requires-clause-said c = c.in_ok-later-in-BadLine.ensures.can (stp_of c.args.writer.now)
 
-pub returns-in_ok-later-in-BadLine-clause-ok : goal.returns-in_ok-later-in-BadLine-clause-ok
-returns-in_ok-later-in-BadLine-clause-ok c = λ lines s.
+pub returns-in_ok-later-in-BadLine-clause-puts : goal.returns-in_ok-later-in-BadLine-clause-puts
+returns-in_ok-later-in-BadLine-clause-puts c = λ lines s.
     let p = c.args.plan.now in
     let bad = c.read_into.ensures.value ∙ ap (λ (r : Result (Unit {0}) LineFault). answer r c.read_into.new.said) c.in-Err.is ∙ ap Err c.in-BadLine.is in
     let same = c.read_later.ensures.said p.plan lines bad ∙ ap (fits_after lines) c.in_ok-later-in-BadLine.was in
     puts_said p c.args.version c.args.text.now c.args.writer.now _ lines c.in_ok-later-in-BadLine.later c.requires.plan
-    same c.put2.result (c.put2.ensures.puts (port_of p) lines s)
-
-pub returns-in_ok-later-in-BadLine-clause-err : goal.returns-in_ok-later-in-BadLine-clause-err
-returns-in_ok-later-in-BadLine-clause-err c = λ lines s.
-    let p = c.args.plan.now in
-    let bad = c.read_into.ensures.value ∙ ap (λ (r : Result (Unit {0}) LineFault). answer r c.read_into.new.said) c.in-Err.is ∙ ap Err c.in-BadLine.is in
-    let same = c.read_later.ensures.said p.plan lines bad ∙ ap (fits_after lines) c.in_ok-later-in-BadLine.was in
-    unfit_said p c.args.version c.args.text.now c.args.writer.now c.put2.new.self lines c.in_ok-later-in-BadLine.later c.requires.plan
     same c.put2.result (c.put2.ensures.puts (port_of p) lines s)

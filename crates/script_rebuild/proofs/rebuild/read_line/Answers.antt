@@ -1,8 +1,8 @@
 use Rattle.std.proofs.Common.{◌∙◌, ap, Result}
-use Rattle.script_text.specs.declared.line_fault.LineFault.{LineFault}
-use Rattle.script_text.specs.Lines.{answer}
+use Rattle.script_rebuild.specs.Names.{LineFault, answer}
 use Rattle.script_rebuild.specs.Script.{in_order}
-use Rattle.script_rebuild.proofs.Sources.{says_same, says_fault, can_be_put}
+use Rattle.script_rebuild.specs.ReadingLaws.{says_fault}
+use Rattle.script_rebuild.proofs.Sources.{says_same, can_be_put}
 use Rattle.script_rebuild.proofs.rebuild.read_line.Goals as goal
 
 pub returns-in-Ok-clause-said : goal.returns-in-Ok-clause-said

@@ -1,16 +1,10 @@
-use Rattle.std.proofs.Common.{◌≡◌, ℕ, List, [], ◌∷◌, ◌++◌, refl, ap, ◌∙◌}
-use Rattle.std.specs.Prelude.{codes}
-use Rattle.frame_writer.specs.Rows.{of_source}
-use Rattle.script_text.proofs.Computed.{line_of, line_of_words, shape_named, itm_of, dwt_of, name, stp_of, raw_named}
-use Rattle.script_text.proofs.Computed.{hexadecimal_named, digits, decode_pairs}
-use Rattle.stp_encoder.specs.Bytes.{nibbles_for}
-use Rattle.script_text.specs.VersionTwo.{line2_of, trigger_said}
-use Rattle.script_text.specs.Rows.{both}
+use Rattle.std.proofs.Common.{◌≡◌, ℕ, List, [], ◌∷◌, ◌++◌, refl, ap, ◌∙◌, codes}
+use Rattle.script_rebuild.specs.Names.{of_source, nibbles_for, both, all_passed, Tagged}
+use Rattle.script_text.proofs.Computed.{line2_of, trigger_said, line_of, line_of_words, shape_named, itm_of, dwt_of}
+use Rattle.script_text.proofs.Computed.{name, stp_of, raw_named, hexadecimal_named, digits, decode_pairs}
 use Rattle.script_rebuild.specs.Script.{in_order}
 use Rattle.script_rebuild.specs.Segments.{script_segments}
-use Rattle.port_formatter.specs.Passed.{all_passed}
 use Rattle.script_rebuild.specs.Rows.{turns, reading}
-use Rattle.frame_writer.specs.Written.{Tagged}
 use Rattle.script_rebuild.proofs.rows.flushed.Goals as goal
 
 -- what the lines put, and what the funnel passes on of it

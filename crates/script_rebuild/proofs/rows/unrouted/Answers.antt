@@ -1,8 +1,7 @@
 use Rattle.std.proofs.Common.{rules}
-use Rattle.script_text.proofs.Computed.{line_of, line_of_words, shape_named, itm_of, dwt_of, name, stp_of, raw_named}
-use Rattle.script_text.proofs.Computed.{hexadecimal_named, digits, decode_pairs}
-use Rattle.script_text.specs.VersionTwo.{line2_of, trigger_said}
-use Rattle.frame_writer.specs.Written.{filled, frame_bytes, frames_by}
+use Rattle.script_rebuild.specs.Names.{filled, frame_bytes, frames_by}
+use Rattle.script_text.proofs.Computed.{line2_of, trigger_said, line_of, line_of_words, shape_named, itm_of, dwt_of}
+use Rattle.script_text.proofs.Computed.{name, stp_of, raw_named, hexadecimal_named, digits, decode_pairs}
 use Rattle.script_rebuild.specs.Script.{in_order}
 use Rattle.script_rebuild.proofs.rows.unrouted.Goals as goal
 

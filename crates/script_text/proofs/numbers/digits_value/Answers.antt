@@ -1,5 +1,4 @@
-use Rattle.std.proofs.Common.{get_or, sym, ◌∙◌, ◌≡◌}
-use Rattle.std.specs.Prelude.{◌&&◌, nat_lt}
+use Rattle.std.proofs.Common.{get_or, sym, ◌∙◌, ◌≡◌, ◌&&◌, nat_lt}
 use Rattle.script_text.proofs.Hexadecimals.{digit_tells, more_digits, more_value, and_left, and_right}
 use Rattle.script_text.proofs.numbers.digits_value.Goals as goal
 use Rattle.script_text.proofs.numbers.digits_value.Goals.{then-all, else-all}

@@ -1,5 +1,4 @@
-use Rattle.std.proofs.Common.{arith, ◌+◌, ◌-◌, ◌*◌, refl}
-use Rattle.std.specs.Prelude.{slice_index}
+use Rattle.std.proofs.Common.{arith, ◌+◌, ◌-◌, ◌*◌, refl, slice_index}
 use Rattle.script_text.proofs.PacketLines.{one_digit, two_digits, three_digits}
 use Rattle.script_text.proofs.quick.number_word.Goals as goal
 

@@ -1,5 +1,5 @@
 use Rattle.std.proofs.Common.{◌≡◌, ℕ, ◌*◌, arith, subst, Some}
-use Rattle.itm_grammar.specs.Spelling.{byte_count}
+use Rattle.script_text.specs.Names.{byte_count}
 use Rattle.script_text.specs.Numbers.{hexadecimal_named}
 use Rattle.script_text.specs.Quick.{BeginsWithDigits}
 use Rattle.script_text.proofs.PacketLines.{software_first, value_fits}

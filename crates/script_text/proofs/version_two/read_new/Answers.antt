@@ -1,7 +1,5 @@
-use Rattle.std.proofs.Common.{◌≡◌, ℕ, sym, ap, ◌∙◌, ◌++◌, true, false, List, length}
-use Rattle.std.specs.Prelude.{◌&&◌}
+use Rattle.std.proofs.Common.{◌≡◌, ℕ, sym, ap, ◌∙◌, ◌++◌, true, false, List, length, ◌&&◌, bytes_eq}
 use Rattle.std.specs.Borrow.{Bor}
-use Rattle.std.specs.Str.{bytes_eq}
 use Rattle.arrayvec.specs.ArrayVec.{array_vec_len}
 use Rattle.script_text.specs.Words.{are_printable, words_in, are_words, texts}
 use Rattle.script_text.specs.VersionTwo.{flush_line, trigger_of}

@@ -125,10 +125,10 @@ returns-in-Quiet-clause-taken g c = (
 )
 
 pub returns-in-Frame-clause-counted : goal.returns-in-Frame-clause-counted
-returns-in-Frame-clause-counted g c = λ whole mode u byte k step h.
+returns-in-Frame-clause-counted g c = λ whole mode u byte step h.
     let r = port_reading mode u in
     let cells = g.F.FrameCells.cells c.args.frame.now in
     subst (λ (l : List (List Cell)). HasBytes c.take.new.counts whole l)
     (sym (runs_with r.frames (port_reading mode (u ++ byte_at c.args.at byte ∷ [])).frames cells
     (step.frames ∙ ap (λ (x : PortStep). r.frames ++ frames_by x cells) c.in-Frame.is)))
-    (c.take.ensures.counts.counted whole (runs_in r) k h)
+    (c.take.ensures.counts.counted whole (runs_in r) h)

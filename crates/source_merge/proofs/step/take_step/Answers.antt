@@ -10,10 +10,10 @@ returns-clause-taken g c =
       t.1.received,
       (
         t.2,
-        λ mode u byte es k step h. record {
+        λ mode u byte es step h. record {
           whole = h.whole;
           frames = h.frames;
-          bytes = c.take_ended.ensures.counted h.whole mode u byte k step h.bytes;
+          bytes = c.take_ended.ensures.counted h.whole mode u byte step h.bytes;
           items = t.1.counted h.whole es h.items;
           port =
               c.add_step.ensures.counted (port_reading mode u) (port_reading mode (u ++ byte_at c.args.at byte ∷ [])) c.args.at

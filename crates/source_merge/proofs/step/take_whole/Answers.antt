@@ -23,4 +23,4 @@ returns-clause-taken g c =
     subst (λ (l : List Cell). GivesTo g.V.Receiver.gets (c.args.out.now, c.args.to.now) (c.take_step-stop.new.out, c.take_step-stop.new.to) (λ given.
     let step : StepAt = record { at = c.args.at; step = Frame; cells = l } in
     TakesStep step c.args.slots.now c.take_step-stop.new.slots c.take_step-stop.result given
-    × CountsStep step c.args.counters.now c.take_step-stop.new.counters c.take_step-stop.result given)) same c.take_step-stop.ensures.taken
+    × CountsStep step c.args.counters.now c.take_step-stop.new.counters given)) same c.take_step-stop.ensures.taken

@@ -1,14 +1,14 @@
-use Rattle.std.proofs.Common.{◌∙◌, ◌++◌, [], Bool, List, refl, sym, ap, subst, take, get_or}
+use Rattle.std.proofs.Common.{◌≡◌, ◌∙◌, ◌++◌, [], Bool, List, refl, sym, ap, subst, take}
 use Rattle.std.specs.Prelude.{option_map}
-use Rattle.capture_actions.specs.Names.{Event, Packet, FaultAfter, placed, report_of, stop_of}
+use Rattle.capture_actions.specs.Names.{Event, Packet, Plan, FaultAfter, placed, report_of, stop_of}
 use Rattle.source_merge.specs.Engine as engine
-use Rattle.capture_actions.specs.Faulty.{IsFaulty}
-use Rattle.capture_actions.specs.KindCheck.{plan_of, line_of, last_by, parts_by}
-use Rattle.capture_actions.specs.KindCounts.{HasCounted, number_at}
-use Rattle.capture_actions.specs.Kinds.{source_kinds_text, none}
-use Rattle.capture_actions.specs.Words.{number_of}
+use Rattle.capture_actions.specs.Faulty.{IsFaulty, read_of}
+use Rattle.capture_actions.specs.KindCheck.{plan_of, last_by}
+use Rattle.capture_actions.specs.KindCounts.{HasCounted}
+use Rattle.capture_actions.specs.Stopping.{is_stopped}
 use Rattle.capture_actions.proofs.Feeding.{stands_after, report_after, stop_after, flow_after}
 use Rattle.capture_actions.proofs.Parts.{still_paid}
+use Rattle.capture_actions.proofs.Reading.{read_whole}
 use Rattle.capture_actions.proofs.kind_check.KindCheckAction.feed.Goals as goal
 
 pub returns-clause-fed : goal.returns-clause-fed
@@ -27,6 +27,9 @@ returns-clause-fed c = λ seen s.
     record {
       read = record {
         engine = stands_after old.engine new seen bytes at given fed.flow s.engine c.next-at.ensures same list reads;
+        read = subst (λ (q : Plan). read_of q (seen ++ bytes) ≡ seen ++ bytes) (sym same)
+            (read_whole p (seen ++ bytes) (is_stopped fed.flow)
+            (flow_after old.engine new seen bytes at given fed.flow s.engine c.next-at.ensures same list reads));
         kinds = subst (λ (l : List (Event Packet)). HasCounted one.new.out l)
             (sym (report_after old.engine new seen bytes at given fed.flow s.engine c.next-at.ensures same list reads))
             (one.ensures.reads.1 (report_of p (placed seen)) s.kinds);
@@ -36,11 +39,8 @@ returns-clause-fed c = λ seen s.
       };
       more = [];
       grown = refl;
-      gained = still_paid (parts_by (line_of old) (last_by p old.stop old.tails))
-          (parts_by (λ id. source_kinds_text (engine.plan_of new) id (get_or old.counts id none)
-          (λ word. number_at one.new.out id (number_of word)))
-          (last_by (engine.plan_of new) c.keep_stop-is_faulty.new.stop old.tails)) old.left c.args._outlet.now
-          c.requires.paid;
+      gained = still_paid p (engine.plan_of new) old.kinds one.new.out old.lines (last_by p old.stop old.tails)
+          (last_by (engine.plan_of new) c.keep_stop-is_faulty.new.stop old.tails) c.args._outlet.now c.requires.paid;
       fault = subst (λ (f : Bool). FaultAfter (IsFaulty p) (seen ++ bytes) f)
           (sym c.keep_stop-is_faulty.ensures.flow)
           (flow_after old.engine new seen bytes at given fed.flow s.engine c.next-at.ensures same list reads);

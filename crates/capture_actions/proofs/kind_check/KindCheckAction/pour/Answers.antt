@@ -1,18 +1,34 @@
-use Rattle.std.proofs.Common.{◌-◌, refl, arith}
-use Rattle.capture_actions.specs.KindCheck.{line_of, last_by, plan_of}
-use Rattle.capture_actions.proofs.Parts.{pours_last, pours_line}
+use Rattle.std.proofs.Common.{◌++◌, ◌∙◌, List, ℕ, ap, length, subst, sym, arith, true}
+use Rattle.capture_actions.specs.Names.{Plan, Pours}
+use Rattle.capture_actions.specs.KindCheck.{last_by, plan_of}
+use Rattle.capture_actions.specs.KindLines.{PutsPart, owed}
 use Rattle.capture_actions.proofs.kind_check.KindCheckAction.pour.Goals as goal
 
-pub returns-then-self-eq0-2-clause-poured : goal.returns-then-self-eq0-2-clause-poured
-returns-then-self-eq0-2-clause-poured c =
+pub returns-in-Nothing-clause-poured : goal.returns-in-Nothing-clause-poured
+returns-in-Nothing-clause-poured c =
     let old = c.args.self.now in
-    let off = c.if-self-eq0.false in
-    pours_last (line_of old) (last_by (plan_of old) old.stop old.tails) old.left (old.left - 1) c.args.outlet.now
-    c.put_last.new.outlet refl (omega arith) c.if-self-eq0-2.true c.put_last.ensures
+    let put = subst (λ (p : Plan). PutsPart c.pour.result (owed p old.kinds old.lines) (owed p old.kinds c.pour.new.self)
+    c.args.outlet.now c.pour.new.outlet) c.plan.ensures c.pour.ensures in
+    put.nothing c.in-Nothing.is (last_by (plan_of old) old.stop old.tails)
 
-pub returns-else-self-eq0-2-clause-poured : goal.returns-else-self-eq0-2-clause-poured
-returns-else-self-eq0-2-clause-poured c =
+pub returns-in-Source-clause-poured : goal.returns-in-Source-clause-poured
+returns-in-Source-clause-poured c =
     let old = c.args.self.now in
-    let off = c.if-self-eq0-2.false in
-    pours_line (line_of old) (last_by (plan_of old) old.stop old.tails) (old.left - 1) c.args.outlet.now
-    c.put_source.new.outlet old.left refl old.few (omega arith) c.put_source.ensures
+    let put = subst (λ (p : Plan). PutsPart c.pour.result (owed p old.kinds old.lines) (owed p old.kinds c.pour.new.self)
+    c.args.outlet.now c.pour.new.outlet) c.plan.ensures c.pour.ensures in
+    put.source c.in-Source.is (last_by (plan_of old) old.stop old.tails)
+
+pub put_last-requires : goal.put_last-requires
+put_last-requires c =
+    let same = ap length (c.pour.ensures.last c.in-Last.is).0 in let room = c.requires.room in omega arith
+
+pub returns-in-Last-clause-poured : goal.returns-in-Last-clause-poured
+returns-in-Last-clause-poured c =
+    let old = c.args.self.now in
+    let last = last_by (plan_of old) old.stop old.tails in
+    let put = subst (λ (p : Plan). PutsPart c.pour.result (owed p old.kinds old.lines) (owed p old.kinds c.pour.new.self)
+    c.args.outlet.now c.pour.new.outlet) c.plan.ensures c.pour.ensures in
+    let one = put.last c.in-Last.is in
+    subst (λ (l : List ℕ). Pours (owed (plan_of old) old.kinds old.lines last) (owed (plan_of old) old.kinds c.pour.new.self last)
+    c.args.outlet.now l true)
+    (sym (c.put_last.ensures ∙ ap (λ (l : List ℕ). l ++ last) one.0)) (one.1 last)

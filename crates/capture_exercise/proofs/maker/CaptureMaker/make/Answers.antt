@@ -1,13 +1,13 @@
-use Rattle.std.proofs.Common.{◌≡◌, ◌+◌, ◌-◌, ◌<◌, ◌++◌, [], List, ℕ, ◌∙◌, sym, ap, subst, arith, Bool, true, false, cond, Ok, rules}
+use Rattle.std.proofs.Common.{◌≡◌, ◌+◌, ◌-◌, ◌<◌, ◌++◌, [], List, ℕ, ◌∙◌, sym, ap, subst, arith, true, false, cond, Ok}
 use mathlib.Core.Logic.{∥∥₁_elim, ∥∥₁_map}
 use Rattle.std.proofs.Props.{props}
-use Rattle.script_text.specs.declared.version_two.Line2.{Line2}
-use Rattle.script_rebuild.specs.Versions.{fitting}
-use Rattle.script_rebuild.specs.Writer.{Stands, order_of, stp_of, kept_by, turns_of}
+use Rattle.capture_exercise.specs.Names.{Line2, fitting}
+use Rattle.script_rebuild.specs.Writer.{order_of, stp_of, kept_by}
 use Rattle.capture_exercise.specs.Exercise.{exercise_port, exercise_lines}
 use Rattle.capture_exercise.specs.Making.{later}
 use Rattle.capture_exercise.proofs.Fitting.{line_fits}
-use Rattle.capture_exercise.proofs.Steps.{surely, can_be_put, unmade, stands_more, line_bytes, rest_bytes, last_made, line_made}
+use Rattle.capture_exercise.proofs.Steps.{surely, can_be_put, unmade, stands_more, line_bytes, rest_bytes, last_made}
+use Rattle.capture_exercise.proofs.Steps.{line_made}
 use Rattle.capture_exercise.proofs.maker.CaptureMaker.make.Goals as goal
 
 pub invariant_of-self-else-self-clause-stands : goal.invariant_of-self-else-self-clause-stands

@@ -20,5 +20,5 @@ returns c = λ u k.
     let port = c.port_end-port.ensures u k.port in
     same_tails self.count _ _ _ _ _ _ _ _ _ _ _ k.count (ap (λ e. e.mode) port) (ap (λ e. e.skipped) port)
     (ap (λ e. e.tail) port) (c.unattributed.ensures u k)
-    (c.source_tails.ensures (parts_in r)
-    (subst (λ l. StandFor self.plan (parts_in r) l) (sym c.as_slice.ensures.value) k.sources))
+    (c.source_tails.ensures self.guesses (parts_in r)
+    (subst (λ l. StandFor self.guesses self.plan (parts_in r) l) (sym c.as_slice.ensures.value) k.sources))

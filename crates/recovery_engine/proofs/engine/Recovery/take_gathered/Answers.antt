@@ -4,6 +4,7 @@ use Rattle.std.proofs.lemmas.List.{length-append}
 use Rattle.trace_values.specs.declared.cell.Cell.{Cell}
 use Rattle.trace_values.specs.Placed.{Placed, placed_from, units_of}
 use Rattle.trace_values.proofs.Placing.{length-placed_from}
+use Rattle.deformatter.specs.Rising.{BytesRise}
 use Rattle.frame_grammar.specs.Frame.{cells, id_after}
 use Rattle.frame_grammar.specs.Reading.{offsets_of}
 use Rattle.frame_grammar.specs.Whole.{without_halves}
@@ -19,7 +20,7 @@ use Rattle.recovery_engine.specs.Engine.{Stands}
 use Rattle.recovery_engine.specs.Slots.{StandFor, total}
 use Rattle.recovery_engine.specs.declared.slot.RecoveringSlot.{RecoveringSlot}
 use Rattle.recovery_engine.proofs.Blocks.{port_list}
-use Rattle.recovery_engine.proofs.Feeding.{report_more, stands_more}
+use Rattle.recovery_engine.proofs.Feeding.{report_more, rises_more, stands_more}
 use Rattle.recovery_engine.proofs.WholeFrames.{frame_counts, frame_parts}
 use Rattle.recovery_engine.proofs.engine.Recovery.take_gathered.Goals as goal
 
@@ -34,7 +35,7 @@ invariant_of-self g c =
     let size = c.size.ensures in
     record {
       port_few = (let p = self.port_few in let f = c.pass_frame.ensures.few in omega (arith, p, f, size));
-      few = subst (λ (l : List RecoveringSlot). total l ≤ 60 * (self.count + c.size.result)) (sym all)
+      few = subst (λ (l : List RecoveringSlot). total l ≤ 90 * (self.count + c.size.result)) (sym all)
           (let f = self.few in let t = c.take_whole.ensures.few in omega (arith, f, t, size, before));
       counted_few = (let f = self.counted_few in let t = c.add_frame-after.ensures.more in omega (arith, f, t, size));
       limit = (let l = c.requires.limit in omega (arith, l, size));
@@ -66,11 +67,18 @@ returns g c =
     plan.frames u c.requires.framed k.port
     ∙ ap (λ (l : List Cell). parts_in (recovered plan.frames u) ++ map Run (runs_of l)) (same w q) in
     let stood : (u : List Placed) → Stands self u →
-    StandFor plan (parts_in (recovered plan.frames u)) c.as_mut_slice.result.now =
-    λ u k. subst (λ (l : List RecoveringSlot). StandFor plan (parts_in (recovered plan.frames u)) l)
+    StandFor self.guesses plan (parts_in (recovered plan.frames u)) c.as_mut_slice.result.now =
+    λ u k. subst (λ (l : List RecoveringSlot). StandFor self.guesses plan (parts_in (recovered plan.frames u)) l)
     (sym c.as_mut_slice.ensures.value) k.sources in
+    let gathered : (w : List ℕ) → IsGathered at w frame → length w ≡ 16 + 2 * frame.halves =
+    λ w q. whole_size w frame.bytes frame.halves q.whole in
+    let rising : (u : List Placed) (w : List ℕ) → Stands self u → IsGathered at w frame →
+    BytesRise 0 (self.count + c.size.result) (u ++ placed_from at w) = λ u w k q.
+    subst (λ (n : ℕ). BytesRise 0 (self.count + c.size.result) (u ++ placed_from n w)) (sym c.requires.here)
+    (rises_more u self.count c.size.result w (gathered w q ∙ sym c.size.ensures) k.rising) in
     record {
       plan = refl;
+      guesses = refl;
       count = ap (λ (n : ℕ). self.count + n) c.size.ensures;
       list = λ u w k q. record {
         port =
@@ -80,9 +88,9 @@ returns g c =
             ∙ ap (λ (l : List ℕ). id_after l (id_of self.port)) (sym (q.whole.frame_is at)))) k.port;
         sources =
             subst (λ (l : List RecoveringSlot).
-            StandFor plan (parts_in (recovered plan.frames (u ++ placed_from at w))) l)
+            StandFor self.guesses plan (parts_in (recovered plan.frames (u ++ placed_from at w))) l)
             (sym all)
-            (stands_more g.V.Hearer.gets plan u (u ++ placed_from at w) (map Run (runs_of own))
+            (stands_more g.V.Hearer.gets self.guesses plan u (u ++ placed_from at w) (map Run (runs_of own))
             (c.as_mut_slice.result.now, (c.args.out.now, c.args.to.now))
             (new, (c.take_whole.new.out, c.take_whole.new.to))
             (more u w k q) c.take_whole.ensures.takes (stood u k));
@@ -95,15 +103,16 @@ returns g c =
             (λ r s. c.pass_frame.ensures.passes r _ frame.halves at w s (q.whole.spelled at))
             plan.frames u c.requires.framed k.port)) (k.counted framed);
         count = (let e = k.count in let l = length-append u (placed_from at w) in let p = length-placed_from at w in
-            let n = whole_size w frame.bytes frame.halves q.whole in let s = c.size.ensures in
-            omega (arith, e, l, p, n, s));
+            let n = gathered w q in let s = c.size.ensures in omega (arith, e, l, p, n, s));
+        rising = rising u w k q;
       };
       given = (
         c.take_whole.ensures.takes.0,
         c.take_whole.ensures.takes.1,
-        λ u w k q. report_more g.V.Hearer.gets plan u (u ++ placed_from at w) (map Run (runs_of own))
+        λ u w k q. report_more g.V.Hearer.gets self.guesses plan u (u ++ placed_from at w) (map Run (runs_of own))
             (c.as_mut_slice.result.now, (c.args.out.now, c.args.to.now))
-            (new, (c.take_whole.new.out, c.take_whole.new.to)) (more u w k q) c.take_whole.ensures.takes (stood u k),
+            (new, (c.take_whole.new.out, c.take_whole.new.to)) (more u w k q) c.take_whole.ensures.takes (stood u k)
+            (self.count + c.size.result) (rising u w k q),
       );
       room = c.take_whole.ensures.room;
     }

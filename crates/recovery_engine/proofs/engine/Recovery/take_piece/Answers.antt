@@ -17,7 +17,7 @@ use Rattle.recovery_report.specs.Words.{AreOf, singles}
 use Rattle.recovery_engine.specs.Port.{PortStands}
 use Rattle.recovery_engine.specs.Slots.{StandFor, total}
 use Rattle.recovery_engine.specs.declared.slot.RecoveringSlot.{RecoveringSlot}
-use Rattle.recovery_engine.proofs.Feeding.{bare_more, bare_of, piece_bare, report_more, stands_more}
+use Rattle.recovery_engine.proofs.Feeding.{bare_more, bare_of, piece_bare, report_more, rises_more, stands_more}
 use Rattle.recovery_engine.proofs.engine.Recovery.take_piece.Goals as goal
 
 pub take_each-requires-clause-own : goal.take_each-requires-clause-own
@@ -53,7 +53,7 @@ invariant_of-self g c =
     let before : total c.as_mut_slice.result.now ≡ total old = ap total c.as_mut_slice.ensures.value in
     record {
       port_few = (let p = self.port_few in omega (arith, p));
-      few = subst (λ (l : List RecoveringSlot). total l ≤ 60 * (self.count + run.count)) (sym all)
+      few = subst (λ (l : List RecoveringSlot). total l ≤ 90 * (self.count + run.count)) (sym all)
           (let f = self.few in let t = c.take_each.ensures.few in omega (arith, f, t, size, before));
       counted_few = (let f = self.counted_few in omega (arith, f));
       limit = (let l = c.requires.limit in omega (arith, l));
@@ -69,10 +69,13 @@ returns g c =
     let size = bytes_length run in
     let all_bytes : bytes ≡ bytes_in run = take_all run.count (bytes_in run) (omega (arith, size)) in
     let taken : length bytes ≡ run.count = ap length all_bytes ∙ size in
-    let w = placed_from run.at bytes in
+    let at = self.count in
+    let here = c.requires.here in
+    let w = placed_from at bytes in
     let cells_are : cells ≡ map bare_cell w =
     piece_bare run.at (bytes_in run)
-    ∙ ap (λ (b : List ℕ). map bare_cell (placed_from run.at b)) (sym all_bytes) in
+    ∙ ap (λ (b : List ℕ). map bare_cell (placed_from run.at b)) (sym all_bytes)
+    ∙ ap (λ (n : ℕ). map bare_cell (placed_from n bytes)) here in
     let bare = c.requires.bare in
     let old = self.slots.items in
     let new = c.take_each.new.slots in
@@ -85,28 +88,31 @@ returns g c =
     record {
       bytes = (c.requires.some, omega (arith, size));
       plan = refl;
+      guesses = refl;
       count = refl;
       list = λ u k. record {
         port = subst (λ (m : FramesMode). PortStands m self.port (u ++ w)) (sym bare) tt;
         sources =
-            subst (λ (l : List RecoveringSlot). StandFor plan (parts_in (recovered plan.frames (u ++ w))) l) (sym all)
-            (stands_more g.V.Hearer.gets plan u (u ++ w) (singles cells)
+            subst (λ (l : List RecoveringSlot). StandFor self.guesses plan (parts_in (recovered plan.frames (u ++ w))) l) (sym all)
+            (stands_more g.V.Hearer.gets self.guesses plan u (u ++ w) (singles cells)
             (c.as_mut_slice.result.now, (c.args.out.now, c.args.to.now))
             (new, (c.take_each.new.out, c.take_each.new.to)) (more u) c.take_each.ensures.takes
-            (subst (λ (l : List RecoveringSlot). StandFor plan (parts_in (recovered plan.frames u)) l)
+            (subst (λ (l : List RecoveringSlot). StandFor self.guesses plan (parts_in (recovered plan.frames u)) l)
             (sym c.as_mut_slice.ensures.value) k.sources));
         counted = λ framed. absurd (framed bare);
-        count = (let e = k.count in let l = length-append u w in let p = length-placed_from run.at bytes in
+        count = (let e = k.count in let l = length-append u w in let p = length-placed_from at bytes in
             omega (arith, e, l, p, taken));
+        rising = rises_more u at run.count bytes taken k.rising;
       };
       given = (
         c.take_each.ensures.takes.0,
         c.take_each.ensures.takes.1,
-        λ u k. report_more g.V.Hearer.gets plan u (u ++ w) (singles cells)
+        λ u k. report_more g.V.Hearer.gets self.guesses plan u (u ++ w) (singles cells)
             (c.as_mut_slice.result.now, (c.args.out.now, c.args.to.now))
             (new, (c.take_each.new.out, c.take_each.new.to)) (more u) c.take_each.ensures.takes
-            (subst (λ (l : List RecoveringSlot). StandFor plan (parts_in (recovered plan.frames u)) l)
-            (sym c.as_mut_slice.ensures.value) k.sources),
+            (subst (λ (l : List RecoveringSlot). StandFor self.guesses plan (parts_in (recovered plan.frames u)) l)
+            (sym c.as_mut_slice.ensures.value) k.sources) (at + run.count)
+            (rises_more u at run.count bytes taken k.rising),
       );
       room = (let a = c.take_each.ensures.room in let b = piece_length run in omega (arith, a, b));
     }

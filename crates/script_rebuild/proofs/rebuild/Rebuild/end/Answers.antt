@@ -1,8 +1,8 @@
 use Rattle.std.proofs.Common.{◌≤◌, ◌+◌, ◌∙◌, sym, ap, length, arith, refl}
-use Rattle.port_formatter.specs.FormatterLaws.{paid_room}
+use Rattle.script_rebuild.specs.Names.{paid_room}
 use Rattle.script_rebuild.specs.Rebuilt.{port_of, routed_so_far}
 use Rattle.script_rebuild.proofs.Rooms.{less_room}
-use Rattle.script_rebuild.proofs.Taking.{fault_none, ended_whole, ended_before, ended_last}
+use Rattle.script_rebuild.proofs.Taking.{none_if, ended_whole, ended_before, ended_last}
 use Rattle.script_rebuild.proofs.rebuild.Rebuild.end.Goals as goal
 
 pub put_line-requires-clause-count : goal.put_line-requires-clause-count
@@ -30,9 +30,9 @@ pub returns-in-Ok-clause-ended : goal.returns-in-Ok-clause-ended
 returns-in-Ok-clause-ended c = λ seen s.
     let r = c.args.self.now in
     let lines = (routed_so_far r.plan seen).lines in
-    let live = fault_none r.fault (sym c.is_some.ensures ∙ c.if-is_some.false) in
+    let live = none_if r.fault (sym c.is_some.ensures ∙ c.if-is_some.false) in
     let few : length r.line.items ≤ 256 = omega (arith, c.as_slice.ensures.fits, ap length c.as_slice.ensures.value) in
-    let puts = c.in-Ok.ensures.ok lines s.writer in
+    let puts = (c.in-Ok.ensures.puts lines s.writer).ok in
     ended_whole r _ c.put_line.new.writer seen c.as_slice.result.now refl live c.requires.paid s live few c.as_slice.ensures.value puts
     c.put_line.ensures.plan (c.flush.ensures.puts (port_of r.plan) _ puts.stands)
 
@@ -40,7 +40,7 @@ pub returns-in-Err-clause-ended : goal.returns-in-Err-clause-ended
 returns-in-Err-clause-ended c = λ seen s.
     let r = c.args.self.now in
     let lines = (routed_so_far r.plan seen).lines in
-    let live = fault_none r.fault (sym c.is_some.ensures ∙ c.if-is_some.false) in
+    let live = none_if r.fault (sym c.is_some.ensures ∙ c.if-is_some.false) in
     let few : length r.line.items ≤ 256 = omega (arith, c.as_slice.ensures.fits, ap length c.as_slice.ensures.value) in
     ended_last r _ seen c.as_slice.result.now c.in-Err.fault refl refl c.in-Err.ensures.same c.requires.paid s live few c.as_slice.ensures.value
-    (c.in-Err.ensures.err lines s.writer)
+    (c.in-Err.ensures.puts lines s.writer).err

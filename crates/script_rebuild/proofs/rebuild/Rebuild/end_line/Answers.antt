@@ -1,5 +1,5 @@
 use Rattle.std.proofs.Common.{◌≡◌, ◌≤◌, ◌∙◌, ◌+◌, ℕ, sym, ap, subst, length, arith, Some, Err}
-use Rattle.port_formatter.specs.FormatterLaws.{paid_room}
+use Rattle.script_rebuild.specs.Names.{paid_room, Paid}
 use Rattle.script_rebuild.specs.declared.version.Version.{Version}
 use Rattle.script_rebuild.specs.Versions.{version_after}
 use Rattle.script_rebuild.specs.Writer as writers
@@ -7,7 +7,6 @@ use Rattle.script_rebuild.specs.declared.writer.LineWriter.{LineWriter}
 use Rattle.script_rebuild.specs.declared.plan.RebuildPlan.{RebuildPlan}
 use Rattle.script_rebuild.specs.PutLine.{PutsLine, says_placed}
 use Rattle.script_rebuild.specs.Rebuilt.{port_of, routed_so_far}
-use Rattle.trace_stream.specs.Debt.{Paid}
 use Rattle.script_rebuild.proofs.Rooms.{less_room}
 use Rattle.script_rebuild.proofs.RoutedSteps.{fed_routed}
 use Rattle.script_rebuild.proofs.Taking.{sound_of, open_few, said_there, refused, line_ended, gained_by, owes_kept}
@@ -25,7 +24,7 @@ returns-in-Ok-clause-taken c = λ mid seen is s.
     let few : length mid.line.items ≤ 256 = omega (arith, ap length is.line_is, c.requires.text.0) in
     let at = subst (λ (w : LineWriter). writers.Stands w (port_of mid.plan) lines) is.writer s.writer in
     let plan = subst (λ (p : RebuildPlan). writers.Stands c.args.self.now.writer (port_of p) lines) is.plan at in
-    let put = c.in-Ok.ensures.ok lines plan in
+    let put = (c.in-Ok.ensures.puts lines plan).ok in
     let with_plan = subst (λ (p : RebuildPlan). PutsLine p c.args.self.now.version text c.args.self.now.writer c.put_line.new.writer lines) (sym is.plan) put in
     let with_version = subst (λ (v : Version). PutsLine mid.plan v text c.args.self.now.writer c.put_line.new.writer lines) (sym is.version) with_plan in
     let puts = subst (λ (w : LineWriter). PutsLine mid.plan mid.version text w c.put_line.new.writer lines) (sym is.writer) with_version in
@@ -46,7 +45,7 @@ returns-in-Err-clause-taken c = λ mid seen is s.
     let at = subst (λ (w : LineWriter). writers.Stands w (port_of mid.plan) lines) is.writer s.writer in
     let plan = subst (λ (p : RebuildPlan). writers.Stands c.args.self.now.writer (port_of p) lines) is.plan at in
     let said = subst (λ (v : Version). says_placed mid.plan v lines text ≡ Err fault) (sym is.version)
-    (subst (λ (p : RebuildPlan). says_placed p c.args.self.now.version lines text ≡ Err fault) (sym is.plan) (c.in-Err.ensures.err lines plan)) in
+    (subst (λ (p : RebuildPlan). says_placed p c.args.self.now.version lines text ≡ Err fault) (sym is.plan) (c.in-Err.ensures.puts lines plan).err) in
     let paid = subst (λ (w : LineWriter). writers.debt_of w ≡ Paid) (sym is.writer) c.requires.paid in
     refused mid _ seen 10 fault c.args.outlet.now (sym is.plan) live c.requires.live.reading (ap (λ (n : ℕ). Some (record { line = n + 1; fault = fault })) (sym is.lines)) (ap (λ (n : ℕ). n + 1) (sym is.count))
     (c.in-Err.ensures.same ∙ sym is.writer) paid

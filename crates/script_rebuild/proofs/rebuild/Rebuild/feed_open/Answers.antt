@@ -2,7 +2,7 @@ use Rattle.std.proofs.Common.{◌<◌, ◌+◌, ◌∙◌, ◌++◌, sym, ap, ta
 use Rattle.std.proofs.lemmas.List.{take_more}
 use Rattle.script_rebuild.specs.Writer as writers
 use Rattle.script_rebuild.specs.declared.writer.LineWriter.{LineWriter}
-use Rattle.script_rebuild.proofs.Taking.{fault_none, all_taken, byte_taken}
+use Rattle.script_rebuild.proofs.Taking.{none_if, all_taken, byte_taken}
 use Rattle.script_rebuild.proofs.rebuild.Rebuild.feed_open.Goals as goal
 
 pub returns-then-len-piece-clause-fed : goal.returns-then-len-piece-clause-fed
@@ -24,7 +24,7 @@ returns-clause-fed c =
     record {
       same = t.same ∙ f.same;
       reading = t.reading;
-      live = λ e. fault_none last.new.self.fault (sym t.fault ∙ e);
+      live = λ e. none_if last.new.self.fault (sym t.fault ∙ e);
       fed = λ seen s.
           byte_taken c.add_front-len.new.self last.new.self c.args.self.now.plan seen (take n piece) (take (n + 1) piece) (get_or piece n 0) c.args.outlet.now last.new.outlet f.same t.same f.live.sound
           (take_more piece n 0 less) (f.reads seen s) (f.read seen s) (t.taken (seen ++ take n piece) (f.reads seen s)) last.result t.fault;

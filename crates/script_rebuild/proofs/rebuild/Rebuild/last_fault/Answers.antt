@@ -1,10 +1,9 @@
-use Rattle.std.proofs.Common.{◌≡◌, refl, ◌∙◌, sym, ap, inl, inr, Ok, None, rules, Option}
-use Rattle.std.specs.Prelude.{is_some, option_map}
+use Rattle.std.proofs.Common.{◌≡◌, refl, ◌∙◌, sym, ap, inl, inr, Ok, None, rules, Option, is_some, option_map}
 use Rattle.script_rebuild.specs.Versions.{Reading}
 use Rattle.script_rebuild.specs.Rebuilder.{told}
 use Rattle.script_rebuild.specs.Rebuilt.{routed_so_far}
 use Rattle.script_rebuild.specs.declared.plan.ScriptFault.{ScriptFault}
-use Rattle.script_rebuild.proofs.Taking.{last_says, last_fault_is, kept_fault, owed_none}
+use Rattle.script_rebuild.proofs.Taking.{last_says, last_fault_is, kept_fault, none_if}
 use Rattle.script_rebuild.proofs.rebuild.Rebuild.last_fault.Goals as goal
 
 pub returns-in-Some : goal.returns-in-Some
@@ -22,14 +21,14 @@ pub returns-in-Ok : goal.returns-in-Ok
 returns-in-Ok c = λ seen s.
     let r = c.args.self.now in
     let live : r.fault ≡ None = search rules in
-    let reads = s.reads (owed_none r.owed (sym c.is_some.ensures ∙ c.if-is_some.false)) in
-    let says = c.in-Ok.ensures.ok (routed_so_far r.plan seen).lines reads.writer in
+    let reads = s.reads (none_if r.owed (sym c.is_some.ensures ∙ c.if-is_some.false)) in
+    let says = (c.in-Ok.ensures.said (routed_so_far r.plan seen).lines reads.writer).0 in
     ap (λ (x : Reading). x.fault) (sym (last_says r seen r.line.items (Ok says.0) reads live c.last_fits.ensures.few refl says.1))
 
 pub returns-in-Err : goal.returns-in-Err
 returns-in-Err c = λ seen s.
     let r = c.args.self.now in
     let live : r.fault ≡ None = search rules in
-    let reads = s.reads (owed_none r.owed (sym c.is_some.ensures ∙ c.if-is_some.false)) in
+    let reads = s.reads (none_if r.owed (sym c.is_some.ensures ∙ c.if-is_some.false)) in
     last_fault_is r seen r.line.items c.in-Err.fault reads live c.last_fits.ensures.few refl
-    (c.in-Err.ensures.err (routed_so_far r.plan seen).lines reads.writer)
+    (c.in-Err.ensures.said (routed_so_far r.plan seen).lines reads.writer).1

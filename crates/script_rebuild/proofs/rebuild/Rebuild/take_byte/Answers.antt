@@ -1,5 +1,8 @@
-use Rattle.std.proofs.Common.{◌++◌, ◌∙◌, sym, ap, refl, subst}
+use Rattle.std.proofs.Common.{◌++◌, ◌∙◌, sym, ap, refl, subst, length}
+use Rattle.script_rebuild.specs.Names.{LongLine}
 use Rattle.script_rebuild.specs.Rebuilder.{TakesByte}
+use Rattle.script_rebuild.proofs.RoutedSteps.{long_routed}
+use Rattle.script_rebuild.proofs.Taking.{sound_of, refused}
 use Rattle.script_rebuild.proofs.rebuild.Rebuild.take_byte.Goals as goal
 
 pub returns-then-byte-eq10-clause-taken : goal.returns-then-byte-eq10-clause-taken
@@ -16,4 +19,10 @@ returns-then-byte-eq10-clause-taken c = λ seen s.
     }) s)
 
 pub returns-else-byte-eq10-clause-taken : goal.returns-else-byte-eq10-clause-taken
-returns-else-byte-eq10-clause-taken c = λ seen s. c.refuse_line.ensures.taken seen c.args.outlet.now s
+returns-else-byte-eq10-clause-taken c = λ seen s.
+    let r = c.args.self.now in
+    let live = c.requires.live.sound in
+    let other = c.if-byte-eq10.false in
+    let long = sym (ap length (s.open_bytes live)) ∙ c.requires.last other in
+    refused r _ seen c.args.byte LongLine c.args.outlet.now refl live c.requires.live.reading refl refl refl c.requires.paid
+    (long_routed r.plan seen (sound_of r seen s live) c.args.byte long other) s

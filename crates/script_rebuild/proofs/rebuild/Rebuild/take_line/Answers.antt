@@ -1,5 +1,5 @@
 use Rattle.std.proofs.Common.{◌≤◌, ◌+◌, refl, length, arith}
-use Rattle.trace_stream.specs.declared.limits.TheConstants.{GREATEST_CAPTURE}
+use Rattle.script_rebuild.specs.Names.{GREATEST_CAPTURE}
 use Rattle.script_rebuild.proofs.Taking.{opened, whole_line, line_taken}
 use Rattle.script_rebuild.proofs.rebuild.Rebuild.take_line.Goals as goal
 

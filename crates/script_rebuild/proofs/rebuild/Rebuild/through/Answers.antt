@@ -1,7 +1,6 @@
 use Rattle.std.proofs.Common.{sym, subst, Option}
+use Rattle.script_rebuild.specs.Names.{no_segments, Turns}
 use Rattle.port_formatter.specs.Formatter.{Stands}
-use Rattle.port_formatter.specs.Segments.{no_segments}
-use Rattle.trace_funnel.specs.declared.turns.Turns.{Turns}
 use Rattle.script_rebuild.proofs.rebuild.Rebuild.through.Goals as goal
 
 pub over-requires-clause-fresh : goal.over-requires-clause-fresh

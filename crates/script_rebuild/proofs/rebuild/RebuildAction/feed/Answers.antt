@@ -1,8 +1,6 @@
-use Rattle.std.proofs.Common.{arith, ◌≡◌, ◌∷◌, [], ◌++◌, ◌+◌, ◌∙◌, ℕ, ap, sym, subst, take}
-use Rattle.std.specs.Prelude.{IfSome}
+use Rattle.std.proofs.Common.{arith, ◌≡◌, ◌∷◌, [], ◌++◌, ◌+◌, ◌∙◌, ℕ, ap, sym, subst, take, IfSome}
 use Rattle.std.proofs.lemmas.List.{take_more, length-take, length-take-le}
-use Rattle.script_text.specs.declared.quick.PacketLine.{PacketLine}
-use Rattle.script_text.specs.Quick.{IsFirstLine, IsPacketOf}
+use Rattle.script_rebuild.specs.Names.{PacketLine, IsFirstLine, IsPacketOf}
 use Rattle.script_rebuild.specs.Rebuilder.{Feeds}
 use Rattle.script_rebuild.proofs.Sources.{there}
 use Rattle.script_rebuild.proofs.Taking.{taken_so}

@@ -1,29 +1,28 @@
-use Rattle.std.proofs.Common.{◌≡◌, ℕ, ◌+◌, List, refl, sym, ◌∙◌, ap, subst, length, length-append}
-use Rattle.std.specs.Prelude.{Bool, not}
+use Rattle.std.proofs.Common.{◌≡◌, ℕ, ◌+◌, List, refl, sym, ◌∙◌, ap, subst, length, length-append, Bool, not}
+use Rattle.script_rebuild.specs.Names.{owing, with_debt}
 use Rattle.trace_stream.specs.Owed.{last_of}
-use Rattle.trace_stream.specs.Debt.{owing, with_debt}
 use Rattle.script_rebuild.specs.Rebuilt.{ending}
 use Rattle.script_rebuild.specs.Rebuilder.{HasEnded, plan_of}
 use Rattle.script_rebuild.specs.Writer.{kept_by}
 use Rattle.script_rebuild.specs.declared.plan.RebuildPlan.{RebuildPlan}
 use Rattle.script_rebuild.specs.declared.rebuild.Rebuild.{Rebuild}
-use Rattle.script_rebuild.proofs.Taking.{stands_ended, all_owed, paid_writer, owed_none}
+use Rattle.script_rebuild.proofs.Taking.{stands_ended, all_owed, paid_writer, none_if}
 use Rattle.script_rebuild.proofs.rebuild.RebuildAction.finish.Goals.{then-is_none, else-is_none}
 use Rattle.script_rebuild.proofs.rebuild.RebuildAction.finish.Goals as goal
 
 pub end-requires-clause-reading : goal.end-requires-clause-reading
-end-requires-clause-reading c = owed_none c.args.self.now.owed (c.is_none.ensures ∙ ap (λ (b : Bool). not b) c.if-is_none.true)
+end-requires-clause-reading c = none_if c.args.self.now.owed (c.is_none.ensures ∙ ap (λ (b : Bool). not b) c.if-is_none.true)
 
 pub end-requires-clause-paid : goal.end-requires-clause-paid
 end-requires-clause-paid c =
-    paid_writer c.args.self.now (owed_none c.args.self.now.owed (c.is_none.ensures ∙ ap (λ (b : Bool). not b) c.if-is_none.true)) c.requires.paid
+    paid_writer c.args.self.now (none_if c.args.self.now.owed (c.is_none.ensures ∙ ap (λ (b : Bool). not b) c.if-is_none.true)) c.requires.paid
 
 pub returns-clause-stands : goal.returns-clause-stands
 returns-clause-stands c = λ seen s.
     let ended : HasEnded c.if-is_none.self seen = elim c.if-is_none.branch [
       | then-is_none w ↦
           subst (λ (r : Rebuild). HasEnded r seen) (sym w.self-is)
-          (w.end.ensures.ended seen (s.reads (owed_none c.args.self.now.owed (c.is_none.ensures ∙ ap (λ (b : Bool). not b) w.if-is_none.true))))
+          (w.end.ensures.ended seen (s.reads (none_if c.args.self.now.owed (c.is_none.ensures ∙ ap (λ (b : Bool). not b) w.if-is_none.true))))
       | else-is_none w ↦
           subst (λ (r : Rebuild). HasEnded r seen) (sym w.self-is)
           (s.ended (c.is_none.ensures ∙ ap (λ (b : Bool). not b) w.if-is_none.false))
@@ -36,7 +35,7 @@ returns-clause-ended c = λ seen s.
     let ended : HasEnded r seen = elim c.if-is_none.branch [
       | then-is_none w ↦
           subst (λ (r : Rebuild). HasEnded r seen) (sym w.self-is)
-          (w.end.ensures.ended seen (s.reads (owed_none c.args.self.now.owed (c.is_none.ensures ∙ ap (λ (b : Bool). not b) w.if-is_none.true))))
+          (w.end.ensures.ended seen (s.reads (none_if c.args.self.now.owed (c.is_none.ensures ∙ ap (λ (b : Bool). not b) w.if-is_none.true))))
       | else-is_none w ↦
           subst (λ (r : Rebuild). HasEnded r seen) (sym w.self-is)
           (s.ended (c.is_none.ensures ∙ ap (λ (b : Bool). not b) w.if-is_none.false))

@@ -1,7 +1,5 @@
 use Rattle.std.proofs.Common.{◌≡◌, sym, subst, rules}
-use Rattle.script_text.specs.declared.lines.Line.TheVariants.{Of}
-use Rattle.script_text.specs.declared.version_two.Line2.{Line2}
-use Rattle.script_text.specs.declared.version_two.Line2.TheVariants.{One}
+use Rattle.script_rebuild.specs.Names.{Of, Line2, One}
 use Rattle.script_rebuild.specs.Routed.{puttable, line_if}
 use Rattle.script_rebuild.specs.Script.{given_puts}
 use Rattle.script_rebuild.specs.Writer.{CanBePut2, stp_of, turns_of}

@@ -1,5 +1,5 @@
 use Rattle.std.proofs.Common.{sym, subst, ◌+◌, arith, Ok}
-use Rattle.script_text.specs.declared.version_two.Line2.{Line2}
+use Rattle.script_rebuild.specs.Names.{Line2}
 use Rattle.script_rebuild.specs.PutLine.{PutsAfter}
 use Rattle.script_rebuild.proofs.Rooms.{less_room}
 use Rattle.script_rebuild.proofs.Standing.{flush_after}

@@ -1,6 +1,6 @@
 use Rattle.std.proofs.Common.{◌≡◌, ℕ, [], ◌∷◌, refl, subst, ◌∙◌, true}
-use Rattle.port_formatter.specs.Formatter.{Puts, turns_of}
-use Rattle.port_formatter.specs.Port.{has_place}
+use Rattle.script_rebuild.specs.Names.{Puts, has_place}
+use Rattle.port_formatter.specs.Formatter.{turns_of}
 use Rattle.script_rebuild.specs.Script.{tagged}
 use Rattle.script_rebuild.proofs.Placing.{trigger_placed}
 use Rattle.script_rebuild.proofs.Standing.{trigger_put}

@@ -22,6 +22,9 @@ invariant_of-self c =
       few = (let a = self.few in let b = c.pass_frame.ensures.few in omega arith);
       ready = λ k. ready_more (30 * n) (30 * (n + bytes)) self.slots.items (omega arith) (self.ready k);
       size = λ k. (let a = self.size k in let b = c.add_frame-after.ensures.size in omega arith);
+      most =
+          (let a = self.size c.requires.live in let b = c.add_frame-after.ensures.size in let d = self.within in
+          let e = c.requires.offsets.0 in let f = c.requires.offsets.1 in omega arith);
       whole = (let a = self.whole in let b = c.add_frame-after.ensures.whole in omega arith);
       within = (let a = self.within in let b = c.requires.offsets.0 in omega arith);
       limit = (let a = c.requires.offsets.1 in omega arith);
@@ -61,11 +64,8 @@ returns-clause-list c = λ u w h whole.
       next = ap (λ (k : ℕ). at + k) (sym long) ∙ on.next;
       count = (let a = on.count in omega arith);
       live = c.requires.live ∙ ap is_none (sym sound);
-      going = λ k. record {
-        stand = subst (λ (l : List Slot). AllStand l (runs_in (port_of plan next))) (sym c.requires.none) tt;
-        counted =
-            c.add_frame-after.ensures.counted plan.frames u next (offsets_of f) (report_of plan u) (report_of plan next) grows
-            (are_items plan none u at on.rise before) (are_items plan none next (at + length w) on.rises sound)
-            (h.going c.requires.live).counted;
-      };
+      counted =
+          c.add_frame-after.ensures.counted plan.frames u next (offsets_of f) (report_of plan u) (report_of plan next) grows
+          (are_items plan none u at on.rise before) (are_items plan none next (at + length w) on.rises sound) h.counted;
+      going = λ k. subst (λ (l : List Slot). AllStand l (runs_in (port_of plan next))) (sym c.requires.none) tt;
     }

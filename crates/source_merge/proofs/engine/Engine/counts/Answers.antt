@@ -8,7 +8,6 @@ use Rattle.source_merge.proofs.engine.Engine.counts.Goals as goal
 pub returns-clause-value : goal.returns-clause-value
 returns-clause-value c = λ u h.
     let plan = c.args.self.now.plan in
-    let k = (h.going c.requires).counted in
-    c.of.ensures.value (port_of plan u) (report_of plan u) k
+    c.of.ensures.value (port_of plan u) (report_of plan u) h.counted
     ∙ ap (λ (n : ℕ). (let r : Counts = record { bytes = n; items = items_in c.args.id (report_of plan u) } in r))
     (bytes_are plan.frames u c.args.id)

@@ -26,17 +26,16 @@ pub returns : goal.returns
 returns c = λ u h.
     let self = c.args.self.now in
     let plan = self.plan in
-    let k = h.going c.requires in
     let r = port_of plan u in
     let t = tails_of plan u in
     same_tails _ t.bytes _ t.mode _ t.skipped _ t.tail _ t.unattributed _ t.sources h.count
     (c.of_port.ensures ∙ ap (port_mode plan.frames) (c.is_locked.ensures.list u h.port ∙ ap (λ (m : FramesMode). (port_reading m u).locked) h.mode))
     (c.skipped.ensures.list u h.port ∙ ap (λ (m : FramesMode). (port_reading m u).skipped) h.mode)
     (c.tail.ensures.list u h.port ∙ ap (λ (m : FramesMode). (port_reading m u).tail) h.mode)
-    (c.unattributed.ensures r (report_of plan u) k.counted ∙ unattributed_are plan.frames u)
+    (c.unattributed.ensures r (report_of plan u) h.counted ∙ unattributed_are plan.frames u)
     (c.source_tails.ensures r
     (subst (λ (l : List Slot). mapped_of l ≡ sources_by plan) (sym c.as_slice.ensures.value) h.sources)
-    (subst (λ (l : List Slot). AllStand l (runs_in r)) (sym c.as_slice.ensures.value) k.stand))
+    (subst (λ (l : List Slot). AllStand l (runs_in r)) (sym c.as_slice.ensures.value) (h.going c.requires)))
 
 pub source_tails-requires-clause-ready : goal.source_tails-requires-clause-ready
 source_tails-requires-clause-ready c =

@@ -14,6 +14,7 @@ invariant_of-result c = record {
   few = (let a = c.new-port.ensures.empty.0 in let b = c.new-port.ensures.empty.1 in omega arith);
   ready = λ k. fresh_ready 0 c.slots_of-slots.result.items c.slots_of-slots.ensures.fresh;
   size = λ k. (let a = c.new-2.ensures.none.0 in omega arith);
+  most = (let a = c.new-2.ensures.none.0 in omega arith);
   whole = (let a = c.new-2.ensures.none.1 in omega arith);
   within = omega arith;
   limit = omega arith;
@@ -35,18 +36,16 @@ returns-clause-fresh c =
       next = refl;
       count = refl;
       live = sym (ap is_none (no_fault_first (sources_by plan) law plan.frames));
-      going = λ k. record {
-        stand = subst (λ (l : List (List Cell)). AllStand slots l) (sym runs) (fresh_stand slots c.slots_of-slots.ensures.fresh);
-        counted = record {
-          whole = [];
-          frames = c.new-2.ensures.frames;
-          bytes = subst (λ (l : List (List Cell)). HasBytes c.new-2.result.bytes [] l) (sym runs) c.new-2.ensures.bytes;
-          items = subst (λ es. HasItems c.new-2.result.items [] es) (sym (no_event_first (sources_by plan) law plan.frames)) c.new-2.ensures.items;
-          port = record {
-            fulls = ap (λ (p : PortCounts). p.fulls) c.new-2.ensures.port ∙ sym nothing.fulls;
-            halves = ap (λ (p : PortCounts). p.halves) c.new-2.ensures.port ∙ sym nothing.halves;
-            frames = ap (λ (p : PortCounts). p.frames) c.new-2.ensures.port ∙ sym (ap length nothing.frames);
-          };
+      counted = record {
+        whole = [];
+        frames = c.new-2.ensures.frames;
+        bytes = subst (λ (l : List (List Cell)). HasBytes c.new-2.result.bytes [] l) (sym runs) c.new-2.ensures.bytes;
+        items = subst (λ es. HasItems c.new-2.result.items [] es) (sym (no_event_first (sources_by plan) law plan.frames)) c.new-2.ensures.items;
+        port = record {
+          fulls = ap (λ (p : PortCounts). p.fulls) c.new-2.ensures.port ∙ sym nothing.fulls;
+          halves = ap (λ (p : PortCounts). p.halves) c.new-2.ensures.port ∙ sym nothing.halves;
+          frames = ap (λ (p : PortCounts). p.frames) c.new-2.ensures.port ∙ sym (ap length nothing.frames);
         };
       };
+      going = λ k. subst (λ (l : List (List Cell)). AllStand slots l) (sym runs) (fresh_stand slots c.slots_of-slots.ensures.fresh);
     }

@@ -5,12 +5,12 @@ use Rattle.source_merge.specs.Names.{Cell, Placed, placed_from, units_of, Frames
 use Rattle.source_merge.specs.Names.{offsets_of, without_halves, Frame, FedFrame, GrowsByFrame}
 use Rattle.source_merge.specs.Names.{port_reading, Mapped, Event, Packet, Plan}
 use Rattle.source_merge.specs.Names.{IsGathered}
-use Rattle.source_merge.specs.Names.{frame_places}
+use Rattle.source_merge.specs.Names.{frame_places, runs_in}
 use Rattle.frame_grammar.proofs.Wholes.{whole_size}
 use Rattle.source_merge.specs.declared.slot.Slot.{Slot}
-use Rattle.source_merge.specs.Engine.{Stands, Keeps}
+use Rattle.source_merge.specs.Engine.{Stands}
 use Rattle.source_merge.specs.Answering.{port_of, fault_of}
-use Rattle.source_merge.specs.Routing.{AreDistinct}
+use Rattle.source_merge.specs.Routing.{AllStand, AreDistinct}
 use Rattle.source_merge.specs.Stepping.{StepAt, TakesStep}
 use Rattle.source_merge.proofs.Standing.{distinct, none_there, tested, none_of}
 use Rattle.source_merge.proofs.Going.{Stepped, stepped, halves_inside}
@@ -39,6 +39,8 @@ invariant_of-self g c =
           ready_after 30 self.slots.items c.as_mut_slice.result.now c.take_whole-taken.new.slots c.as_mut_slice.ensures.value stop
           c.take_whole-taken.ensures.slots (none_there stop (sym gone ∙ k)) (30 * n) (30 * (n + bytes)) (omega arith) (self.ready c.requires.live);
       size = λ k. (let a = self.size c.requires.live in let b = c.take_whole-taken.ensures.counters.size in omega arith);
+      most =
+          (let a = self.size c.requires.live in let b = c.take_whole-taken.ensures.counters.size in let d = self.within in let e = c.requires.offsets.0 in let f = c.requires.offsets.1 in omega arith);
       whole = (let a = self.whole in let b = c.take_whole-taken.ensures.counters.whole in omega arith);
       within = (let a = self.within in let b = c.requires.offsets.0 in omega arith);
       limit = (let a = c.requires.offsets.1 in omega arith);
@@ -99,14 +101,13 @@ module _ (g : bound.Over) (c : goal.After-flow_of g) (u : List Placed) (w : List
   the_step : Stepped plan slots h.sources (30 * c.args.self.now.count) (c.args.self.now.ready c.requires.live) c.take_whole-taken.new.slots c.take_whole-taken.new.counters u c.args.frame.now.at w
       es c.take_whole-taken.result.stop c.flow_of.result
   the_step =
-      let keeps = h.going c.requires.live in
       let halves = c.args.self.now.counters.port.halves + c.args.frame.now.halves in
       stepped plan slots h.sources (30 * c.args.self.now.count) (c.args.self.now.ready c.requires.live) c.take_whole-taken.new.slots c.args.self.now.counters c.take_whole-taken.new.counters
       halves step es c.take_whole-taken.result.stop c.flow_of.result u c.args.frame.now.at w
-      on.rise (none_there (fault_of plan u) (sym h.live ∙ c.requires.live)) keeps
+      on.rise (none_there (fault_of plan u) (sym h.live ∙ c.requires.live)) (h.going c.requires.live) h.counted
       (subst (λ (ss : List (Mapped Packet)). AreDistinct ss) (sym h.sources) (distinct plan c.args.self.now.sound))
       fed
-      (ap (λ (k : ℕ). k + c.args.frame.now.halves) keeps.counted.port.halves ∙ sym (halves_inside plan.frames got u c.args.frame.now.at w c.args.frame.now.halves fed grows))
+      (ap (λ (k : ℕ). k + c.args.frame.now.halves) h.counted.port.halves ∙ sym (halves_inside plan.frames got u c.args.frame.now.at w c.args.frame.now.halves fed grows))
       (λ k e. (let a = size in omega arith))
       (subst (λ (l : List Slot). TakesStep step l c.take_whole-taken.new.slots c.take_whole-taken.result.stop es) c.as_mut_slice.ensures.value
       c.take_whole-taken.ensures.taken.2.0)
@@ -146,9 +147,10 @@ returns-clause-takes g c =
             next = ap (λ (k : ℕ). at + k) (sym (size g c u w h q)) ∙ more.next;
             count = (let a = more.count in let b = size g c u w h q in omega arith);
             live = gone ∙ none_of c.take_whole-taken.result.stop ∙ ap is_none (sym last.fault);
+            counted = last.counted;
             going = λ k.
-                subst (λ (l : List Slot). Keeps self.plan l c.take_whole-taken.new.counters (u ++ placed_from at w))
+                subst (λ (l : List Slot). AllStand l (runs_in (port_of self.plan (u ++ placed_from at w))))
                 (sym (written 30 self.slots.items c.as_mut_slice.result.now c.take_whole-taken.new.slots value c.take_whole-taken.result.stop took))
-                (last.keeps (none_there c.take_whole-taken.result.stop (sym gone ∙ k)));
+                (last.stand (none_there c.take_whole-taken.result.stop (sym gone ∙ k)));
           };
     }

@@ -4,17 +4,17 @@ use Rattle.std.specs.Prelude.{is_none}
 use Rattle.std.specs.Option.{option_map}
 use Rattle.std.proofs.lemmas.List.{take_all, length-take-le}
 use Rattle.source_merge.specs.Names.{Fault, Placed, placed_from, FramesMode, Bare, port_reading, Event}
-use Rattle.source_merge.specs.Names.{Stop, Packet, Plan, Mapped, stop_of}
+use Rattle.source_merge.specs.Names.{Stop, Packet, Plan, Mapped, runs_in, stop_of}
 use Rattle.trace_values.proofs.Placing.{length-placed_from}
 use Rattle.source_merge.specs.declared.slot.Slot.{Slot}
 use Rattle.source_merge.specs.declared.engine.Engine.{Engine}
 use Rattle.source_merge.specs.declared.piece.PieceRun.{PieceRun}
-use Rattle.source_merge.specs.Engine.{Stands, Keeps}
+use Rattle.source_merge.specs.Engine.{Stands}
 use Rattle.source_merge.specs.Front.{IsBare, IsCertain}
-use Rattle.source_merge.specs.Answering.{fault_by, fault_of, goes_on, report_of}
+use Rattle.source_merge.specs.Answering.{fault_by, fault_of, goes_on, port_of, report_of}
 use Rattle.source_merge.specs.Counting.{HasCounted}
 use Rattle.source_merge.specs.Piece.{bytes_in, piece_cells}
-use Rattle.source_merge.specs.Routing.{mapped_of, AreReady, AreDistinct, SlotFed, SlotPlace}
+use Rattle.source_merge.specs.Routing.{mapped_of, AllStand, AreReady, AreDistinct, SlotFed, SlotPlace}
 use Rattle.source_merge.proofs.BareLists.{bare_port}
 use Rattle.source_merge.proofs.Ending.{FirstAt, first_at}
 use Rattle.source_merge.proofs.Growing.{Longer, longer, no_fault}
@@ -123,6 +123,9 @@ invariant_of-self g c =
       size = λ k.
           (let a = self.size c.requires.next.live in let b = c.add_bare.ensures.size in let d = c.feed_slot-fault.ensures.1.total in
           let w = whole (none_there fault (sym gone ∙ k)) in omega (arith, a, b, d, w, long));
+      most =
+          (let a = self.size c.requires.next.live in let b = c.add_bare.ensures.size in let d = c.feed_slot-fault.ensures.1.total in
+          let e = c.requires.next.after in let f = c.requires.next.within in let w = self.within in let s = some.1 in omega (arith, a, b, d, e, f, w, s, long));
       whole = (let a = self.whole in let b = c.add_bare.ensures.same in omega arith);
       within = (let a = self.within in let b = c.requires.next.after in omega arith);
       limit = (let a = c.requires.next.within in omega arith);
@@ -165,9 +168,6 @@ module _ (g : bound.Over) (c : goal.After-flow_of g) where
     none : fault_of plan u ≡ None
     none = no_fault self c.requires.next.live u h
 
-    keeps : Keeps plan self.slots.items self.counters u
-    keeps = h.going c.requires.next.live
-
     long : length taken ≡ c.taken_of-bytes.result
     long = length-take-le c.taken_of-bytes.result (bytes_in run) (let a = bytes_length run in let b = c.taken_of-bytes.ensures.bytes.1 in omega (arith, a, b))
 
@@ -179,7 +179,7 @@ module _ (g : bound.Over) (c : goal.After-flow_of g) where
         made_of plan self.slots.items h.sources (30 * self.count) (self.ready c.requires.next.live) c.requires.own.0 c.args.index
         (first_at 1 self.slots.items c.args.index c.requires.own.1)
         (subst (λ (ss : List (Mapped Packet)). AreDistinct ss) (sym h.sources) (distinct plan self.sound)) after u run.at (bytes_in run) given fault
-        (fed self run c.args.index c.requires.own c.requires.next.live after given fault feeds) more.rise none keeps.stand
+        (fed self run c.args.index c.requires.own c.requires.next.live after given fault feeds) more.rise none (h.going c.requires.next.live)
 
     -- with no fault all is taken
     all : fault ≡ None → taken ≡ bytes_in run
@@ -199,7 +199,7 @@ module _ (g : bound.Over) (c : goal.After-flow_of g) where
 
     counted : HasCounted c.add_bare.new.self (port_reading Bare (u ++ placed_from run.at taken)) (report_of plan u ++ given)
     counted =
-        let k = subst (λ (m : FramesMode). HasCounted self.counters (port_reading m u) (report_of plan u)) c.requires.own.0 keeps.counted in
+        let k = subst (λ (m : FramesMode). HasCounted self.counters (port_reading m u) (report_of plan u)) c.requires.own.0 h.counted in
         c.add_bare.ensures.counted u (placed_from run.at taken) (report_of plan u ++ given)
         (length-placed_from run.at taken ∙ long)
         (record {
@@ -210,11 +210,9 @@ module _ (g : bound.Over) (c : goal.After-flow_of g) where
           port = k.port;
         })
 
-    kept : fault ≡ None → Keeps plan after c.add_bare.new.self (u ++ placed_from run.at taken)
-    kept goes =
-        subst (λ (l : List ℕ). Keeps plan after c.add_bare.new.self (u ++ placed_from run.at l)) (sym (all goes))
-        (made.keeps_on goes c.add_bare.new.self
-        (subst (λ (l : List ℕ). HasCounted c.add_bare.new.self (port_reading Bare (u ++ placed_from run.at l)) (report_of plan u ++ given)) (all goes) counted))
+    stand : fault ≡ None → AllStand after (runs_in (port_of plan (u ++ placed_from run.at taken)))
+    stand goes =
+        subst (λ (l : List ℕ). AllStand after (runs_in (port_of plan (u ++ placed_from run.at l)))) (sym (all goes)) (made.stand_on goes)
 
     fault_now : (o : Option Fault) → fault ≡ o → fault_of plan (u ++ placed_from run.at taken) ≡ option_map stop_of (stopped o)
     fault_now None e = ap (λ (l : List ℕ). fault_of plan (u ++ placed_from run.at l)) (all e) ∙ made.sound e
@@ -278,8 +276,13 @@ returns-clause-takes g c =
             next = ap (λ (k : ℕ). at + k) (sym (long g c u h)) ∙ (more g c u h).next;
             count = (let a = (more g c u h).count in let i = long g c u h in omega (arith, a, i));
             live = gone ∙ sym (none_fault c.feed_slot-fault.result) ∙ sym (ap is_none (fault_now g c u h c.feed_slot-fault.result refl));
+            counted =
+                subst (λ (es : List (Event Packet)). HasCounted c.add_bare.new.self (port_of self.plan (u ++ placed_from at bytes)) es)
+                (sym (grew g c u h c.feed_slot-fault.result refl))
+                (subst (λ (m : FramesMode). HasCounted c.add_bare.new.self (port_reading m (u ++ placed_from at bytes)) (report_of self.plan u ++ c.feed_slot-fault.ensures.0))
+                (sym c.requires.own.0) (counted g c u h));
             going = λ k.
-                subst (λ (l : List Slot). Keeps self.plan l c.add_bare.new.self (u ++ placed_from at bytes))
-                (sym all) (kept g c u h (none_there c.feed_slot-fault.result (sym gone ∙ k)));
+                subst (λ (l : List Slot). AllStand l (runs_in (port_of self.plan (u ++ placed_from at bytes))))
+                (sym all) (stand g c u h (none_there c.feed_slot-fault.result (sym gone ∙ k)));
           };
     }

@@ -3,12 +3,12 @@ use Rattle.std.proofs.Common.{arith}
 use Rattle.std.specs.Prelude.{is_none}
 use Rattle.std.proofs.lemmas.List.{length-take-le}
 use Rattle.source_merge.specs.Names.{Cell, Placed, placed_from, FramesMode, FedAs, Answers as PortAnswers}
-use Rattle.source_merge.specs.Names.{Mapped, Event, Packet, Plan}
+use Rattle.source_merge.specs.Names.{Mapped, Event, Packet, Plan, runs_in}
 use Rattle.deformatter.specs.declared.step.PortStep.TheVariants.{Quiet}
 use Rattle.source_merge.specs.declared.slot.Slot.{Slot}
-use Rattle.source_merge.specs.Engine.{Stands, Keeps}
-use Rattle.source_merge.specs.Answering.{fault_of}
-use Rattle.source_merge.specs.Routing.{AreDistinct}
+use Rattle.source_merge.specs.Engine.{Stands}
+use Rattle.source_merge.specs.Answering.{fault_of, port_of}
+use Rattle.source_merge.specs.Routing.{AllStand, AreDistinct}
 use Rattle.source_merge.specs.Stepping.{CountsStep, StepAt, TakesStep}
 use Rattle.source_merge.proofs.Standing.{distinct, none_there, tested, none_of}
 use Rattle.source_merge.proofs.Going.{Stepped, stepped, quiet_inside}
@@ -38,6 +38,8 @@ invariant_of-self g c =
           c.take_step-stop.ensures.slots (none_there stop (sym gone ∙ k)) (30 * n) (30 * (n + c.feed_block-taken.result.bytes)) (omega arith)
           (self.ready c.requires.next.live);
       size = λ k. (let a = self.size c.requires.next.live in let b = c.take_step-stop.ensures.counters.size in omega arith);
+      most =
+          (let a = self.size c.requires.next.live in let b = c.take_step-stop.ensures.counters.size in let d = self.within in let e = c.requires.next.after in let f = c.requires.next.within in let s = c.requires.next.some in omega arith);
       whole = (let a = self.whole in let b = c.take_step-stop.ensures.counters.whole in omega arith);
       within = (let a = self.within in let b = c.requires.next.after in omega arith);
       limit = (let a = c.requires.next.within in omega arith);
@@ -70,21 +72,20 @@ module _ (g : bound.Over) (c : goal.After-flow_of g) (u : List Placed) (h : Stan
   the_step : Stepped plan slots h.sources (30 * c.args.self.now.count) (c.args.self.now.ready c.requires.next.live) c.take_step-stop.new.slots c.take_step-stop.new.counters u c.args.at bytes
       es c.take_step-stop.result c.flow_of.result
   the_step =
-      let keeps = h.going c.requires.next.live in
       let inside = quiet_inside plan.frames (PortAnswers plan.frames c.feed_block-taken.result.step c.feed_block-taken.new.out.items) u c.args.at bytes
       (subst (λ (mode : FramesMode). FedAs (PortAnswers mode Quiet []) (PortAnswers mode c.feed_block-taken.result.step c.feed_block-taken.new.out.items) u c.args.at bytes)
       h.mode (c.feed_block-taken.ensures.fed u h.port)) in
       stepped plan slots h.sources (30 * c.args.self.now.count) (c.args.self.now.ready c.requires.next.live) c.take_step-stop.new.slots c.args.self.now.counters c.take_step-stop.new.counters
       c.args.self.now.counters.port.halves (step c.feed_block-taken.new.out.items) es c.take_step-stop.result c.flow_of.result u c.args.at bytes
-      on.rise (none_there (fault_of plan u) (sym h.live ∙ c.requires.next.live)) keeps
+      on.rise (none_there (fault_of plan u) (sym h.live ∙ c.requires.next.live)) (h.going c.requires.next.live) h.counted
       (subst (λ (ss : List (Mapped Packet)). AreDistinct ss) (sym h.sources) (distinct plan c.args.self.now.sound))
-      inside.0 (keeps.counted.port.halves ∙ sym inside.1)
+      inside.0 (h.counted.port.halves ∙ sym inside.1)
       (λ k e. (let a = size in omega arith))
       (subst (λ (l : List Slot). TakesStep (step c.feed_block-taken.new.out.items) l c.take_step-stop.new.slots c.take_step-stop.result es)
       c.as_mut_slice.ensures.value
       (subst (λ (l : List Cell). TakesStep (step l) c.as_mut_slice.result.now c.take_step-stop.new.slots c.take_step-stop.result es)
       c.as_slice.ensures.value c.take_step-stop.ensures.taken.2.0))
-      (subst (λ (l : List Cell). CountsStep (step l) c.args.self.now.counters c.take_step-stop.new.counters c.take_step-stop.result es)
+      (subst (λ (l : List Cell). CountsStep (step l) c.args.self.now.counters c.take_step-stop.new.counters es)
       c.as_slice.ensures.value c.take_step-stop.ensures.taken.2.1)
       c.flow_of.ensures.fault
 
@@ -117,9 +118,10 @@ returns-clause-takes g c =
             next = ap (λ (k : ℕ). c.args.at + k) (sym (size g c u h)) ∙ more.next;
             count = (let a = more.count in let b = size g c u h in omega arith);
             live = gone ∙ none_of c.take_step-stop.result ∙ ap is_none (sym last.fault);
+            counted = last.counted;
             going = λ k.
-                subst (λ (l : List Slot). Keeps self.plan l c.take_step-stop.new.counters (u ++ placed_from c.args.at bytes))
+                subst (λ (l : List Slot). AllStand l (runs_in (port_of self.plan (u ++ placed_from c.args.at bytes))))
                 (sym (written 30 self.slots.items c.as_mut_slice.result.now c.take_step-stop.new.slots value c.take_step-stop.result took))
-                (last.keeps (none_there c.take_step-stop.result (sym gone ∙ k)));
+                (last.stand (none_there c.take_step-stop.result (sym gone ∙ k)));
           };
     }

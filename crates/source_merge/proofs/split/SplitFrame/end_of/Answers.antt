@@ -1,4 +1,4 @@
-use Rattle.std.proofs.Common.{◌+◌, ◌*◌, ◌≤◌, ◌∙◌, ℕ, ap, arith}
+use Rattle.std.proofs.Common.{◌+◌, ◌*◌, ◌∙◌, ℕ, ap, arith}
 use Rattle.source_merge.proofs.Cuts.{end_near}
 use Rattle.source_merge.proofs.split.SplitFrame.end_of.Goals as goal
 

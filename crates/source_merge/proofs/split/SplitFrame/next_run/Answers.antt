@@ -1,9 +1,7 @@
-use Rattle.std.proofs.Common.{◌≡◌, ◌+◌, ◌∷◌, ◌∙◌, ◌≤◌, ◌<◌, ◌++◌, ℕ, List, ap, arith, length, refl, subst, sym}
+use Rattle.std.proofs.Common.{◌≡◌, ◌+◌, ◌∙◌, ℕ, List, ap, arith, length, refl, subst, sym}
 use Rattle.source_merge.specs.Names.{Cell, ends_left}
 use Rattle.source_merge.specs.Split.{IsFirstRun, begun_after, begun_cells, cells_to, left_cells, split_places}
-use Rattle.source_merge.specs.declared.split.Begun.{Begun}
 use Rattle.source_merge.specs.declared.split.RunsLeft.{RunsLeft}
-use Rattle.source_merge.specs.declared.split.SplitFrame.{SplitFrame}
 use Rattle.source_merge.proofs.Cuts.{first_here, next_left, none_here, pair_below, runs_below}
 use Rattle.source_merge.proofs.split.SplitFrame.next_run.Goals as goal
 

@@ -1,4 +1,4 @@
-use Rattle.std.proofs.Common.{◌≡◌, ◌+◌, ◌*◌, ◌^◌, ◌<◌, List, refl, sym, ap, subst, arith, length, None, Some}
+use Rattle.std.proofs.Common.{◌^◌, List, refl, sym, ap, subst, arith, length, None, Some}
 use Rattle.source_merge.specs.Names.{Cell}
 use Rattle.source_merge.specs.Split.{left_cells, run_in, split_cells}
 use Rattle.source_merge.proofs.FrameTaking.{IsTaken, SoFar, all_taken, none_taken, one_more, stopped}
@@ -32,12 +32,22 @@ add_run-requires-clause-room g c =
     let i = c.loop-run.invariant.so_far in
     let cut = first_run _ _ _ c.in-Some.ensures.first c.source-id.ensures.some in
     let t = cut.total in
-    let s = i.size in
-    let n = i.count in
+    let n = i.counted.count in
     let few = c.requires.ready.bytes in
     let all = c.requires.size in
     let l = c.len.ensures in
-    omega (arith, t, s, n, few, all, l)
+    omega (arith, t, n, few, all, l)
+
+pub count_left-requires-clause-room : goal.count_left-requires-clause-room
+count_left-requires-clause-room g c =
+    let cut = first_run _ _ _ c.in-Some.ensures.first c.source-id.ensures.some in
+    let t = cut.total in
+    let n = c.loop-run.invariant.so_far.counted.count in
+    let few = c.requires.ready.bytes in
+    let all = c.requires.size in
+    let l = c.len.ensures in
+    let m = c.add_run.ensures.more in
+    omega (arith, t, n, few, all, l, m)
 
 pub add_run-requires-clause-some : goal.add_run-requires-clause-some
 add_run-requires-clause-some g c = let s = c.source-id.ensures.some in let l = c.len.ensures in omega (arith, s, l)
@@ -52,14 +62,14 @@ take_run-requires-clause-room g c =
     let i = c.loop-run.invariant.so_far in
     let cut = first_run _ _ _ c.in-Some.ensures.first c.source-id.ensures.some in
     let t = cut.total in
-    let s = i.size in record {
+    let s = i.counted.size in record {
       space = (let r = i.to_receiver.space in let q = c.requires.room.space in omega (arith, t, s, r, q));
       count = (let r = i.to_receiver.total in let q = c.requires.room.count in omega (arith, t, s, r, q));
     }
 
 -- a run stopped the report
-taken_to : (g : bound.Over) → (c : goal.In-Some-take_run g) → IsTaken g.V.Receiver.gets g.V.Receiver.room (split_cells c.args.self.now) c.args.slots.now
-    c.args.counts.now (c.args.items.now, (c.args.out.now, c.args.to.now)) c.take_run.new.slots c.add_run.new.self
+taken_to : (g : bound.Over) → (c : goal.After-count_left g) → IsTaken g.V.Receiver.gets g.V.Receiver.room (split_cells c.args.self.now) c.args.slots.now
+    c.args.counts.now (c.args.items.now, (c.args.out.now, c.args.to.now)) c.take_run.new.slots c.count_left.new.counts
     (c.take_run.new.items, (c.take_run.new.out, c.take_run.new.to)) (Some c.in-Some-take_run.stop)
 taken_to g c =
     let i = c.loop-run.invariant.so_far in
@@ -72,7 +82,8 @@ taken_to g c =
     c.loop-run.slots c.take_run.new.slots c.loop-run.counts c.add_run.new.self
     (c.loop-run.items, (c.loop-run.out, c.loop-run.to)) (c.take_run.new.items, (c.take_run.new.out, c.take_run.new.to)) i
     c.take_run.result c.take_run.ensures.slots c.take_run.ensures.took g.met.V.Receiver.gets_more c.in-Some-take_run.stop c.in-Some-take_run.is (2 ^ 58)
-    c.requires.ready.slots_are (let l = c.len.ensures in let d = c.add_run.ensures.more in omega (arith, l, d))
+    c.requires.ready.slots_are (λ whole runs h. c.add_run.ensures.counted whole runs run c.source-id.ensures.own (sym c.len.ensures) h)
+    (let l = c.len.ensures in let d = c.add_run.ensures.more in omega (arith, l, d)) c.count_left.new.counts c.count_left.ensures
 
 pub returns-in-Some-take_run : goal.returns-in-Some-take_run
 returns-in-Some-take_run g c = let k = taken_to g c in record { slots = k.slots_are; fed = k.fed; counts = k.counts_are }

@@ -1,0 +1,43 @@
+-- How the account of `show` goes on: proofs that its `impl` cites.
+use Rattle.std.proofs.Common.{◌≡◌, ◌<◌, ℕ, List, [], ◌++◌, length, sym, ◌∙◌, ap, subst}
+use Rattle.source_events.specs.declared.event.Event.{Event}
+use Rattle.source_events.specs.declared.packet.Packet.{Packet}
+use Rattle.source_events.specs.declared.plan.Plan.{Plan}
+use Rattle.stretch_readings.specs.declared.heard.Heard.{Heard}
+use Rattle.capture_actions.specs.declared.list_plan.ListPlan.{ListPlan}
+use Rattle.recovery_listing.specs.Account.{GoesOn, Pages, events_of}
+use Rattle.recovery_listing.specs.LineLaws.{near_append}
+use Rattle.recovery_listing.specs.Lister as lister
+use Rattle.recovery_listing.specs.Near.{listing_meaning, near_lines_after}
+use Rattle.recovery_listing.specs.Show.{HasListed, asked, gets, with_plan}
+use Rattle.recovery_listing.specs.declared.going_on.GoingOn.{GoingOn}
+use Rattle.recovery_listing.specs.declared.lister.RecoveringLister.{RecoveringLister}
+
+-- what is asked by what is listed
+abbrev by_lines : GoingOn Plan → ListPlan → GoingOn ListPlan
+by_lines how p = record { plan = with_plan how.plan p; guesses = how.guesses }
+
+pub same : (old new : RecoveringLister × Pages) (given : List (Event (Heard Packet))) (how : GoingOn Plan) →
+    gets old given new → asked new.0 how ≡ asked old.0 how
+same old new given how g = ap (by_lines how) g.listed.same
+
+pub goes_on : (old new : RecoveringLister × Pages) (given : List (Event (Heard Packet))) (how : GoingOn Plan)
+    (seen front : List ℕ) → gets old given new → 0 < length front → old.1.notes ≡ [] →
+    events_of how (seen ++ front) ≡ events_of how seen ++ given → HasListed old.0 how seen →
+    GoesOn (HasListed new.0 how) (listing_meaning (asked old.0 how)) (λ bytes. []) seen front old.1 new.1
+goes_on old new given how seen front g some silent more h =
+    let own = lister.plan_of old.0 in
+    let p = with_plan how.plan own in
+    let said = events_of how seen in
+    record {
+      read = record {
+        plan = ap (λ (q : ListPlan). q.plan) g.listed.same ∙ h.plan;
+        events = subst (λ (es : List (Event (Heard Packet))). lister.Stands new.0 es) (sym more)
+            (g.listed.stands said h.events);
+      };
+      more = near_lines_after p said given;
+      grown = ap (near_lines_after p []) more ∙ near_append p [] said given;
+      gained = g.listed.text said h.events
+          ∙ ap (λ (plan : Plan). old.1.text ++ near_lines_after (with_plan plan own) said given) h.plan;
+      noted = sym (g.silent ∙ silent);
+    }
