@@ -20,10 +20,15 @@ mod frame_grammar_rows;
 mod frame_writer_rows;
 mod itm_grammar_rows;
 mod notation;
+mod port_sync_rows;
+mod source_counts_rows;
 mod stp_codec_rows;
 mod stp_encoder_rows;
 mod stp_grammar_rows;
 mod stp_words;
+mod trace_clock_rows;
+mod trace_text_rows;
+mod trace_values_rows;
 
 use notation::Words;
 use std::alloc::Global;
@@ -41,9 +46,14 @@ fn take_line<W: Write>(alloc: Global, line: &str, out: &mut W) -> io::Result<()>
         "frame_grammar" => frame_grammar_rows::run(alloc, &mut words, out),
         "frame_writer" => frame_writer_rows::run(alloc, &mut words, out),
         "itm_grammar" => itm_grammar_rows::run(alloc, &mut words, out),
+        "port_sync" => port_sync_rows::run(alloc, &mut words, out),
+        "source_counts" => source_counts_rows::run(alloc, &mut words, out),
         "stp_codec" => stp_codec_rows::run(alloc, &mut words, out),
         "stp_encoder" => stp_encoder_rows::run(alloc, &mut words, out),
         "stp_grammar" => stp_grammar_rows::run(&mut words, out),
+        "trace_clock" => trace_clock_rows::run(&mut words, out),
+        "trace_text" => trace_text_rows::run(alloc, &mut words, out),
+        "trace_values" => trace_values_rows::run(alloc, &mut words, out),
         _ => out.write_all(b"  ? no such library\n"),
     }
 }

@@ -19,8 +19,6 @@ mod itm_grammar_tests;
 #[cfg(test)]
 mod port_reader_tests;
 #[cfg(test)]
-mod port_sync_tests;
-#[cfg(test)]
 mod reading_modes_tests;
 #[cfg(test)]
 mod recovering_port_tests;
@@ -42,9 +40,5 @@ mod trace_clock_tests;
 mod trace_io_tests;
 #[cfg(test)]
 mod trace_stream_tests;
-#[cfg(test)]
-mod trace_text_tests;
-#[cfg(test)]
-mod trace_values_tests;
 #[cfg(test)]
 mod trace_vectors_tests;
