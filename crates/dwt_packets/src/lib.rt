@@ -8,7 +8,6 @@ pub mod laws;
 mod naming;
 mod packets;
 mod proper;
-pub mod rows;
 
 pub use item::{Change, DwtItem};
 pub use naming::meaning;

@@ -4,4 +4,3 @@ pub mod Spelling
 pub mod Rule
 pub mod Proper
 pub mod Shortest
-pub mod Rows

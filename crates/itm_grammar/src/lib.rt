@@ -7,5 +7,4 @@ pub mod laws;
 pub mod packet;
 pub mod partial;
 pub mod proper;
-pub mod rows;
 pub mod shortest;

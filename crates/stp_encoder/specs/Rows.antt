@@ -11,5 +11,3 @@ at master channel = record { master = Some master; channel = Some channel }
 abbrev pub byte_at : Place → ℕ → Stamp → StpItem
 byte_at place value stamp = Datum place Eight value false stamp
 
-abbrev pub flag_at : ℕ → ℕ → StpItem
-flag_at master channel = Flag (at master channel) NoStamp

@@ -7,7 +7,6 @@ mod fit;
 mod joiner;
 pub mod laws;
 mod packet;
-pub mod rows;
 mod telling;
 
 pub use encoder::{StpEncoder, Unfit};

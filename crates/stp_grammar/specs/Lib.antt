@@ -7,5 +7,4 @@ pub mod Rule
 pub mod Attribution
 pub mod NextState
 pub mod Attributed
-pub mod Rows
 pub mod Said

@@ -10,5 +10,4 @@ pub mod opcode;
 pub mod packet;
 pub mod partial;
 pub mod proper;
-pub mod rows;
 pub mod said;

@@ -7,7 +7,6 @@ mod global;
 mod gray;
 pub mod laws;
 mod local;
-pub mod rows;
 mod stamps;
 mod words;
 

@@ -5,7 +5,6 @@
 
 pub mod itm;
 mod made;
-pub mod rows;
 pub mod stp;
 
 pub use made::{Made, item_at};
