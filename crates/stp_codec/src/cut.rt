@@ -15,7 +15,7 @@ use stp_grammar::partial::Partial;
 use trace_clock::word_nibbles;
 
 /// What bytes make of an unfinished packet.
-#[derive(Clone, Copy, Debug, PartialEq, Eq, Drop)]
+#[derive(Clone, Copy, Drop)]
 pub enum Cut {
     /// All of them are within it, and this is unfinished after them.
     Inside(Partial),

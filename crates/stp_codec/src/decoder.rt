@@ -27,7 +27,7 @@ const ROOM: usize = 64;
 ///
 /// Where `find_part` is given only some bytes of a packet, they wait in it unread, so that the packet is read at once
 /// when the others come.
-#[derive(Debug, Drop)]
+#[derive(Drop)]
 pub struct StpDecoder {
     pub(crate) order: Order,
     pub(crate) mode: Mode,
@@ -51,7 +51,7 @@ pub struct StpDecoder {
 }
 
 /// What was taken of a packet that was read as numbers.
-#[derive(Clone, Copy, Debug, PartialEq, Eq, Drop)]
+#[derive(Clone, Copy, Drop)]
 pub struct SaidTaken {
     /// How many bytes, at least one. The packet ends in the last of them.
     pub bytes: usize,

@@ -20,7 +20,7 @@ use trace_clock::word_nibbles;
 pub const WINDOW: usize = 24;
 
 /// A packet, as numbers.
-#[derive(Clone, Copy, Debug, PartialEq, Eq, Drop)]
+#[derive(Clone, Copy, Drop)]
 pub struct PacketParts {
     /// How many nibbles it takes of the bytes in which it was found.
     pub nibbles: usize,

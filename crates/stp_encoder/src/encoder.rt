@@ -22,7 +22,7 @@ pub struct Unfit {
 
 /// Writes items as bytes. It keeps what the packets so far tell, and a nibble whose byte isn't whole. A copy goes on by
 /// itself.
-#[derive(Clone, Copy, Debug, Drop)]
+#[derive(Clone, Copy, Drop)]
 pub struct StpEncoder {
     order: Order,
     attribution: Attribution,

@@ -17,7 +17,7 @@ fn nibble_at(number: u64, place: u8) -> u8
 }
 
 /// Joins nibbles in bytes, the low nibble of each first.
-#[derive(Clone, Copy, Debug, Drop)]
+#[derive(Clone, Copy, Drop)]
 pub(crate) struct Joiner {
     /// A low nibble, whose byte waits for the high one.
     low: Option<u8>,

@@ -16,7 +16,7 @@ use trace_clock::{from_gray, word_after};
 
 /// What is kept of the packets so far: the version of the protocol, and the master and the channel in force, as far as
 /// they are known, and the last word of the timestamps, 0 where the version keeps none.
-#[derive(Clone, Copy, Debug, PartialEq, Eq, Drop)]
+#[derive(Clone, Copy, Drop)]
 pub struct Attribution {
     version: Option<u8>,
     master: Option<u16>,

@@ -161,7 +161,7 @@ fn nibbles_at(number: u8) -> u8
 }
 
 /// What the first nibbles of a packet begin.
-#[derive(Clone, Copy, Debug, PartialEq, Eq, Drop)]
+#[derive(Clone, Copy, Drop)]
 pub enum Head {
     /// The opcode of the row of this number.
     Whole(u8),

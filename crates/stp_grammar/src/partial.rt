@@ -18,7 +18,7 @@ use trace_clock::word_nibbles;
 use trace_values::{Next, Reason};
 
 /// What is kept of an unfinished packet: by its nibbles so far, what the next one is.
-#[derive(Clone, Copy, Debug, PartialEq, Eq, Drop)]
+#[derive(Clone, Copy, Drop)]
 pub enum Partial {
     /// There are none: the first nibble of a packet.
     Start,
