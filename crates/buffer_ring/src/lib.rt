@@ -10,6 +10,5 @@
 
 mod buffer;
 pub mod laws;
-pub mod rows;
 
 pub use buffer::{TraceBuffer, ordered};

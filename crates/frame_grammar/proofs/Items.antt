@@ -1,15 +1,15 @@
 -- Items one after the other, the bytes of a frame, and the half synchronisations in it.
-use Rattle.std.proofs.Common.{◌≡◌, ◌≢◌, ℕ, zero, suc, ◌+◌, ◌*◌, ◌<◌, ◌≤◌, List, [], ◌∷◌, ◌++◌, length, refl, sym, ◌∙◌, ap, arith, Bool, true, false, cond, Option, None, Some, append_assoc, append-nil, ◌⊎◌, inl, inr}
+use Rattle.std.proofs.Common.{◌≡◌, ◌≢◌, ℕ, zero, suc, ◌+◌, ◌*◌, ◌<◌, ◌≤◌, List, [], ◌∷◌, ◌++◌, length, refl, sym, ◌∙◌, ap, arith, Bool, true, false, cond, Option, None, append_assoc, append-nil, ◌⊎◌, inl, inr}
 use Rattle.std.specs.Prelude.{◌==◌, ◌&&◌, slice_index}
 use Rattle.std.proofs.lemmas.List.{length-append}
 use Rattle.std.proofs.lemmas.Bool.{eq-eqb, ne_eqb, eqb-true, eqb-false}
-use Rattle.frame_grammar.specs.Names.{Cell, Reason, Next, Go, End, Fail, Place, Placed, units_of, Walked, Within, after}
-use Rattle.frame_grammar.specs.Names.{walk, Progress, with_unit, advance, progress_from, unread, progress}
-use Rattle.trace_values.proofs.Walks.{walk_push, walked}
+use Rattle.frame_grammar.specs.Names.{Cell, Next, End, Placed, units_of, Walked, Within, after}
+use Rattle.frame_grammar.specs.Names.{progress}
 use Rattle.frame_grammar.specs.Frame.{IsProperBelow, IsProperFrame}
-use Rattle.frame_grammar.specs.Port.{PortItem, Full, Half, Frame, half_spelling, IsWord, IsWords, Spells, half_words, Between, First, One, Two, Three, State, start, word_ended, rule}
+use Rattle.frame_grammar.specs.Port.{PortItem, Full, Half, Frame, half_spelling, IsWord, IsWords, Spells, why, half_words, Between, First, One, Two, Three, State, start, word_ended, rule}
 use Rattle.frame_grammar.specs.Reading.{item_cells, item_id, cells_of_items, id_of_items}
-use Rattle.frame_grammar.proofs.Deciding.{at, on}
+use Rattle.frame_grammar.proofs.Deciding.{at, on, port_decided}
+use Rattle.trace_values.proofs.Readings as readings
 
 -- items after items
 pub id_of_items-append : (id : Option ℕ) (xs ys : List PortItem) → id_of_items id (xs ++ ys) ≡ id_of_items (id_of_items id xs) ys
@@ -185,21 +185,5 @@ walk_halves (x ∷ (y ∷ r)) t e = elim (pick (x.unit == 255) _ _ (y ∷ r) t e
 ]
 
 -- while there is no fault, the rest leaves the rule in the kept state
-module _ {S V : Type 0} (rule : S → Placed → Next S V) (start : S) where
-  within_in : (p : Progress S V) (b : Placed) (n : Next S V) (f : Option (Place × Reason)) → rule p.state b ≡ n → p.fault ≡ f → (p.fault ≡ None → walk rule start p.rest ≡ Within p.state) →
-      (with_unit start p b n f).fault ≡ None → walk rule start (with_unit start p b n f).rest ≡ Within (with_unit start p b n f).state
-  within_in p b (Go t) None e f h g = walk_push rule start p.state p.rest b (h f) ∙ ap (λ (n : Next S V). walked rule n) e
-  within_in p b (End v) None e f h g = refl
-  within_in p b (Fail w) None e f h g = cc
-  within_in p b n (Some w) e f h g = cc
-
-  within_from : (u : List Placed) (p : Progress S V) → (p.fault ≡ None → walk rule start p.rest ≡ Within p.state) →
-      (progress_from rule start p u).fault ≡ None → walk rule start (progress_from rule start p u).rest ≡ Within (progress_from rule start p u).state
-  within_from [] p h g = h g
-  within_from (b ∷ u) p h g = within_from u (advance rule start p b) (within_in p b (rule p.state b) p.fault refl refl h) g
-
-  pub rest_within : (u : List Placed) → (progress rule start u).fault ≡ None → walk rule start (progress rule start u).rest ≡ Within (progress rule start u).state
-  rest_within u g = within_from u (unread start) (λ _. refl) g
-
 pub unfinished_halves : (u : List Placed) → (progress rule start u).fault ≡ None → (progress rule start u).state.halves ≡ half_words (progress rule start u).rest
-unfinished_halves u g = walk_halves (progress rule start u).rest (progress rule start u).state (rest_within rule start u g)
+unfinished_halves u g = walk_halves (progress rule start u).rest (progress rule start u).state (readings.rest_walks Spells why rule start port_decided u g)

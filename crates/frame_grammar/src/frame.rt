@@ -10,7 +10,7 @@ use trace_values::{Cell, SourceId};
 pub const FRAME_BYTES: usize = 16;
 
 /// The ID in force at an index of a frame, and how many IDs the frame has named up to it.
-#[derive(Clone, Copy, Debug, PartialEq, Eq, Drop)]
+#[derive(Clone, Copy, Drop)]
 struct InForce {
     id: Option<SourceId>,
     run: u8,

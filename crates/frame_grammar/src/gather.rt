@@ -16,7 +16,7 @@ use crate::spaced::spaced_frame;
 pub const MOST_BYTES: usize = 256;
 
 /// A frame gathered from a piece that has half synchronisations between its halfwords.
-#[derive(Clone, Copy, Debug, PartialEq, Eq, Drop)]
+#[derive(Clone, Copy, Drop)]
 pub struct PlacedFrame {
     /// The bytes of the frame.
     pub bytes: [u8; FRAME_BYTES],

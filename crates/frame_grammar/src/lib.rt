@@ -7,7 +7,6 @@ pub mod frame;
 pub mod gather;
 pub mod laws;
 pub mod plain;
-pub mod rows;
 pub mod source_bytes;
 mod spaced;
 mod words;

@@ -17,7 +17,7 @@ use trace_values::SourceId;
 pub const NO_ID: u8 = 0x7F;
 
 /// What was copied of one source's bytes in a frame.
-#[derive(Clone, Copy, Debug, PartialEq, Eq, Drop)]
+#[derive(Clone, Copy, Drop)]
 pub struct CopiedBytes {
     /// How many bytes, 0 to 15.
     pub len: usize,

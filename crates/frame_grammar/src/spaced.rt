@@ -1,7 +1,6 @@
 //! A frame whose bytes are all in a piece, with a half synchronisation in each gap between its halfwords.
 
-ghost use Rattle.std.specs.Prelude.{◌≡◌, ◌≢◌, ◌≤◌, ◌<◌, ◌+◌, ◌*◌, ◌^◌, ℕ, length, take, IfSome};
-ghost use Rattle.std.specs.Prelude.{IsTrue, slice_index};
+ghost use Rattle.std.specs.Prelude.{◌≡◌, ◌≢◌, ◌≤◌, ◌<◌, ◌+◌, ◌*◌, ◌^◌, ℕ, length, take, IfSome, IsTrue, slice_index};
 ghost use Rattle.frame_grammar.specs.Names.{placed_from};
 ghost use Rattle.frame_grammar.specs.Placing.{places_of};
 ghost use Rattle.frame_grammar.specs.Reading.{offsets_of};

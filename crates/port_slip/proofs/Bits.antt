@@ -78,15 +78,8 @@ bits_take (suc n) m x =
 
 -- under eight bits are no byte
 pub few_bits : (s : List Bool) → length s < 8 → whole_bytes s ≡ []
-few_bits [] h = refl
-few_bits (a ∷ []) h = refl
-few_bits (a ∷ (b ∷ [])) h = refl
-few_bits (a ∷ (b ∷ (c ∷ []))) h = refl
-few_bits (a ∷ (b ∷ (c ∷ (d ∷ [])))) h = refl
-few_bits (a ∷ (b ∷ (c ∷ (d ∷ (e ∷ []))))) h = refl
-few_bits (a ∷ (b ∷ (c ∷ (d ∷ (e ∷ (f ∷ [])))))) h = refl
-few_bits (a ∷ (b ∷ (c ∷ (d ∷ (e ∷ (f ∷ (g ∷ []))))))) h = refl
 few_bits (a ∷ (b ∷ (c ∷ (d ∷ (e ∷ (f ∷ (g ∷ (h ∷ s)))))))) l = absurd (omega arith)
+few_bits s h = refl
 
 -- a number's bits are first those of its low end
 pub bits_split : (n m x : ℕ) → bits (n + m) x ≡ bits n x ++ bits m (x / 2 ^ n)

@@ -24,10 +24,6 @@ pub cut_quiet : (s : List Bool) → is_quiet 0 s ≡ true → cut s ≡ record {
 cut_quiet [] h = refl
 cut_quiet (x ∷ s) h = ap (λ t. with_bit t x (cut s)) (quiet_none 31 0 (x ∷ s) h refl) ∙ ap (with_bit false x) (cut_quiet s (quiet_later (x ∷ s) h))
 
--- a pattern with what comes after it, from a place on
-of_begun : (s z : List Bool) → Realigned
-of_begun s z = of_open (opened (begun z ++ s))
-
 -- before the first segment, a pattern that ends in a byte
 pub hunt_ends : (run count : ℕ) (z s : List Bool) → 31 ≤ run + count →
     of_cut (cut (ones run ++ ((ones count ++ (false ∷ z)) ++ s))) ≡

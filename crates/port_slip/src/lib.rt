@@ -7,7 +7,6 @@
 mod byte;
 pub mod laws;
 mod phase;
-pub mod rows;
 mod slip;
 mod window;
 

@@ -167,9 +167,6 @@ module _ (frame offsets : List ℕ) (id : Option ℕ) where
   pair_runs : (k : ℕ) → k < 7 → HasRuns (cells_below frame offsets id k ++ (even_cells frame offsets id k ++ odd_cells frame offsets id k))
   pair_runs k h = let r = left_of k h in below_runs r.0 (suc k) r.1
 
-  abbrev here : ℕ → ℕ → ℕ → Cell
-  here i byte x = cell frame offsets id i byte
-
   even_plain : (k : ℕ) → names frame k ≡ false → even_cells frame offsets id k ≡ cell frame offsets id (2 * k) (even_data frame k) ∷ []
   even_plain k n = ap (λ (b : Bool). cond b [] (cell frame offsets id (2 * k) (even_data frame k) ∷ [])) n
 

@@ -1,4 +1,3 @@
 pub mod Counts
 pub mod Adding
 pub mod Kept
-pub mod Rows

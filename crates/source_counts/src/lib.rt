@@ -2,7 +2,6 @@
 #![tactic(auto)]
 
 mod counts;
-pub mod rows;
 mod source_counts;
 
 pub use counts::Counts;

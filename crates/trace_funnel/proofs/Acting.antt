@@ -8,8 +8,7 @@ use Rattle.std.proofs.lemmas.Bool.{cases_eq, eq-eqb, ne_eqb, and_parts, not-true
 use Rattle.std.proofs.lemmas.List.{length-map, nil_from_length}
 use Rattle.trace_funnel.specs.declared.tagged.Tagged.{Tagged}
 use Rattle.trace_funnel.specs.Turns.{Place, waits, served, Found, first_busy, Turned, turn_of, turn, queue_of}
-use Rattle.trace_funnel.specs.Turns.{waited_of, put}
-use Rattle.trace_funnel.specs.Turns.{turns_while, is_full, drain, load, empty}
+use Rattle.trace_funnel.specs.Turns.{waited_of, put, turns_while, is_full, drain, load, empty}
 use Rattle.trace_funnel.specs.Kept.{bytes_for, count, Apart, AreBounded}
 use Rattle.trace_funnel.specs.Acts.{Act, Offer, Turn, Drain, act, acts, offered, are_of}
 use Rattle.trace_funnel.specs.Order.{are_apart}

@@ -1,6 +1,5 @@
 -- A drain, turn by turn.
-use Rattle.std.proofs.Common.{◌≡◌, ℕ, zero, suc, ◌<◌, ◌≤◌, List, cond, nat_lt, ◌∙◌, ap}
-use Rattle.std.proofs.Common.{arith}
+use Rattle.std.proofs.Common.{◌≡◌, ℕ, zero, suc, ◌<◌, ◌≤◌, List, cond, nat_lt, ◌∙◌, ap, arith}
 use Rattle.std.proofs.lemmas.Bool.{lt-ltb}
 use Rattle.trace_funnel.specs.Turns.{Place, turn, turns_while, load, drain}
 use Rattle.trace_funnel.proofs.Acting.{enough}

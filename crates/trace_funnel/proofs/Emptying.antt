@@ -1,10 +1,8 @@
 -- Each turn of a funnel with bytes gives at least one.
-use Rattle.std.proofs.Common.{◌≡◌, ℕ, zero, suc, ◌+◌, ◌<◌, ◌≤◌, List, [], ◌∷◌, ◌++◌, length, length-drop}
-use Rattle.std.proofs.Common.{map, take, Bool, true, false, cond, nat_lt, refl, sym, ◌∙◌, ap, arith}
-use Rattle.std.proofs.Common.{Option, None, Some}
+use Rattle.std.proofs.Common.{◌≡◌, ℕ, zero, suc, ◌+◌, ◌<◌, ◌≤◌, List, [], ◌∷◌, ◌++◌, length, length-drop, map, take}
+use Rattle.std.proofs.Common.{Bool, true, false, cond, nat_lt, refl, sym, ◌∙◌, ap, arith, Option, None, Some}
 use Rattle.std.proofs.lemmas.Bool.{ltb-true, ltb-false, lt-ltb}
-use Rattle.trace_funnel.specs.Turns.{Place, Found, first_busy, waits, served}
-use Rattle.trace_funnel.specs.Turns.{turn_of, turn, turns_while, load}
+use Rattle.trace_funnel.specs.Turns.{Place, Found, first_busy, waits, served, turn_of, turn, turns_while, load}
 use Rattle.trace_funnel.proofs.Places.{waits_at, AreIdle, IsFound, found}
 use Rattle.trace_funnel.proofs.Turning.{turn_and, stay}
 

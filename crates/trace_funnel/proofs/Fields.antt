@@ -1,8 +1,7 @@
 -- What the fields of a funnel say of its places.
-use Rattle.std.proofs.Common.{◌≡◌, ℕ, zero, suc, ◌-◌, ◌*◌, ◌<◌, ◌≤◌, List, [], ◌∷◌, ◌++◌, length, map, take, drop}
-use Rattle.std.proofs.Common.{Bool, true, false, nat_lt, refl, sym, ◌∙◌, ap, subst, arith, length-append, append-nil}
-use Rattle.std.proofs.Common.{get_or, set, Option, None, Some}
-use Rattle.std.proofs.Common.{◌⊎◌, inl, inr}
+use Rattle.std.proofs.Common.{◌≡◌, ℕ, zero, suc, ◌-◌, ◌*◌, ◌<◌, ◌≤◌, List, [], ◌∷◌, ◌++◌, length, map, take, drop, Bool}
+use Rattle.std.proofs.Common.{true, false, nat_lt, refl, sym, ◌∙◌, ap, subst, arith, length-append, append-nil, get_or}
+use Rattle.std.proofs.Common.{set, Option, None, Some, ◌⊎◌, inl, inr}
 use Rattle.std.specs.Prelude.{not, nat_eq, IsTrue, is_some, IfNone, IfSome}
 use Rattle.std.specs.List.{AllByRecursion}
 use Rattle.std.proofs.lemmas.Bool.{cases_lt, eq-eqb, ne_eqb, lt-ltb, le-ltb, ltb-true}

@@ -1,20 +1,19 @@
 -- How many bytes wait in a funnel.
-use Rattle.std.proofs.Common.{◌≡◌, ℕ, zero, suc, ◌+◌, ◌*◌, ◌≤◌, List, [], ◌∷◌, ◌++◌, length, length-append}
-use Rattle.std.proofs.Common.{map, take, drop, Bool, true, false, cond, refl, sym, ap, subst, arith, suc-mul}
-use Rattle.std.proofs.Common.{Option, None, Some}
+use Rattle.std.proofs.Common.{◌≡◌, ℕ, zero, suc, ◌+◌, ◌*◌, ◌≤◌, List, [], ◌∷◌, ◌++◌, length, length-append, map, take}
+use Rattle.std.proofs.Common.{drop, Bool, true, false, cond, refl, sym, ap, subst, arith, suc-mul, Option, None, Some}
 use Rattle.std.specs.Prelude.{◌==◌}
 use Rattle.std.proofs.lemmas.List.{take-append-drop, length-map}
 use Rattle.trace_funnel.specs.declared.funnel.Funnel.TheInside.{Inside}
 use Rattle.trace_funnel.specs.declared.tagged.Tagged.{Tagged}
 use Rattle.trace_funnel.specs.Turns.{Place, Found, first_busy, waits, served, longer, tagged, Turned, turn_of}
-use Rattle.trace_funnel.specs.Turns.{turn, turns_while, put, is_full, load, drain, empty}
+use Rattle.trace_funnel.specs.Turns.{turn, turns_while, put, is_full, load, empty}
 use Rattle.trace_funnel.specs.Kept.{count}
 use Rattle.trace_funnel.specs.State.{State, with_places, id_at, HasPlace}
 use Rattle.trace_funnel.specs.Queues.{places_of, round}
 use Rattle.trace_funnel.specs.Inside.{state_of, IsWhole}
 use Rattle.trace_funnel.proofs.Places.{IsFound, found}
 use Rattle.trace_funnel.proofs.Turning.{turn_and, stay}
-use Rattle.trace_funnel.proofs.Emptying.{load_append, load_waits, drained}
+use Rattle.trace_funnel.proofs.Emptying.{load_append, load_waits}
 use Rattle.trace_funnel.proofs.Shortness.{AreShort}
 use Rattle.trace_funnel.proofs.Offering.{Offering, offering_all}
 
@@ -77,10 +76,6 @@ offer_load f g h place byte out o has room is =
     let d = ap (λ (s : State). load s.places) is in
     let one = has.one in
     omega (arith, a, b, c, d, one)
-
--- and a drain gives all
-pub drain_load : (hold : ℕ) (ps : List Place) → 1 ≤ hold → load (drain hold ps).places ≡ 0
-drain_load hold ps some = drained hold (load ps) ps some (omega arith)
 
 pub empty_load : (ids : List ℕ) → load (empty ids) ≡ 0
 empty_load [] = refl

@@ -1,7 +1,6 @@
 -- An offer, turn by turn.
-use Rattle.std.proofs.Common.{◌≡◌, ℕ, zero, suc, ◌+◌, ◌*◌, ◌<◌, ◌≤◌, List, [], ◌++◌, length}
-use Rattle.std.proofs.Common.{Bool, true, false, cond, refl, sym, ◌∙◌, ap, subst, arith, append_assoc, append-nil}
-use Rattle.std.proofs.Common.{◌⊎◌, inl, inr}
+use Rattle.std.proofs.Common.{◌≡◌, ℕ, zero, suc, ◌+◌, ◌*◌, ◌<◌, ◌≤◌, List, [], ◌++◌, length, Bool, true, false, cond}
+use Rattle.std.proofs.Common.{refl, sym, ◌∙◌, ap, subst, arith, append_assoc, append-nil, ◌⊎◌, inl, inr}
 use Rattle.std.specs.Prelude.{not}
 use Rattle.std.proofs.lemmas.Bool.{lt-ltb}
 use Rattle.trace_funnel.specs.declared.tagged.Tagged.{Tagged}
@@ -72,14 +71,6 @@ turns_fall g h place has full e =
           subst (λ t. cond t (ahead (id_at g place) (turn_by g).places + 1) 0 < ahead (id_at g place) g.places + 1)
           (sym (ap not (lt-ltb (length (queue_of (id_at g place) (turn_by g).places)) g.depth room))) (omega arith)
       by (inr n) = near (is_full g.depth (id_at g place) (turn_by g).places) n.0
-
-pub offering_room : (f g : State) (place : ℕ) (out : List Tagged) → Offering f g place out → HasPlace g place →
-    is_full g.depth (id_at g place) g.places ≡ true → length out + 15 ≤ 240
-offering_room f g place out o has full =
-    let a = o.enough has in
-    let b = o.room has in
-    let d = ap (λ t. cond t (ahead (id_at g place) g.places + 1) 0) full in
-    omega (arith, a, b, d)
 
 pub offering_more : (f g h : State) (place : ℕ) (out more : List Tagged) → Offering f g place out → HasPlace g place →
     is_full g.depth (id_at g place) g.places ≡ true → h ≡ with_places g (turn_by g).places →

@@ -5,5 +5,4 @@ pub mod Order
 pub mod State
 pub mod Queues
 pub mod Inside
-pub mod Rows
 pub mod SoundTurns

@@ -5,8 +5,7 @@ ghost use Rattle.std.specs.Prelude.{IsTrue, IfOk, if◌then◌else◌, position}
 ghost use Rattle.arrayvec.specs.ArrayVec.{array_vec_len};
 ghost use Rattle.trace_funnel.specs.Turns.{is_full, put, load};
 ghost use Rattle.trace_funnel.specs.Order.{are_apart};
-ghost use Rattle.trace_funnel.specs.State.{fresh, with_places, turn_by, offer_by, HasPlace};
-ghost use Rattle.trace_funnel.specs.State.{id_at, queue_at, waited_at};
+ghost use Rattle.trace_funnel.specs.State.{fresh, with_places, turn_by, offer_by, HasPlace, id_at, queue_at, waited_at};
 
 use crate::queue::{MOST_HELD, Queue, next_busy, place_in, queues_of, serve};
 use crate::tagged::Tagged;

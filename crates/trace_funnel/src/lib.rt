@@ -10,7 +10,6 @@
 mod funnel;
 pub mod laws;
 mod queue;
-pub mod rows;
 mod tagged;
 mod turn_order;
 mod turns;

@@ -39,20 +39,19 @@ module _ {S V : Type 0} (Spells : V → List Placed → Type 0) (why : List Plac
         no_spelling a (h ∷ w) t k e =
             none_beyond Spells why rule start d v (d.goes_on s r f).0 a h (w ++ (d.goes_on s r f).1) t (subst (λ (l : List Placed). Spells (d.goes_on s r f).0 l) k (d.goes_on s r f).2)
 
-  -- what is kept of the list so far: a front and its state, or a front and the fault after it
-  record IsFaultAt (rest : List Placed) (f : Place × Reason) : Type 0 where
-    before : List Placed
-    unit : Placed
-    after : List Placed
-    state : S
-    parts : rest ≡ before ++ (unit ∷ after)
-    front : walk rule start before ≡ Within state
-    broken : rule state unit ≡ Fail f.1
-    place : f.0 ≡ unit.place
+  -- what is kept of the list so far: a front and its state, or a front, its state and the fault after it
+  pub record IsFaultAt (rest : List Placed) (s : S) (f : Place × Reason) : Type 0 where
+    pub before : List Placed
+    pub unit : Placed
+    pub after : List Placed
+    pub parts : rest ≡ before ++ (unit ∷ after)
+    pub front : walk rule start before ≡ Within s
+    pub broken : rule s unit ≡ Fail f.1
+    pub place : f.0 ≡ unit.place
 
   abbrev Kept : List Placed → S → Option (Place × Reason) → Type 0
   Kept rest s None = walk rule start rest ≡ Within s
-  Kept rest s (Some f) = IsFaultAt rest f
+  Kept rest s (Some f) = IsFaultAt rest s f
 
   record Keeps (u : List Placed) (p : Progress S V) : Type 0 where
     splits : Splits Spells p.items p.rest u
@@ -87,7 +86,6 @@ module _ {S V : Type 0} (Spells : V → List Placed → Type 0) (why : List Plac
       before = p.rest;
       unit = b;
       after = [];
-      state = p.state;
       parts = refl;
       front = subst (λ (f : Option (Place × Reason)). Kept p.rest p.state f) g k.kept;
       broken = e;
@@ -95,14 +93,13 @@ module _ {S V : Type 0} (Spells : V → List Placed → Type 0) (why : List Plac
     };
   }
   step_at u p b n (Some f) e g k =
-      let s : IsFaultAt p.rest f = subst (λ (f : Option (Place × Reason)). Kept p.rest p.state f) g k.kept in
+      let s : IsFaultAt p.rest p.state f = subst (λ (f : Option (Place × Reason)). Kept p.rest p.state f) g k.kept in
       record {
         splits = splits_more p.items p.rest u (b ∷ []) k.splits;
         kept = record {
           before = s.before;
           unit = s.unit;
           after = s.after ++ b ∷ [];
-          state = s.state;
           parts = ap (λ l. l ++ b ∷ []) s.parts ∙ append_assoc s.before (s.unit ∷ s.after) (b ∷ []);
           front = s.front;
           broken = s.broken;
@@ -123,31 +120,34 @@ module _ {S V : Type 0} (Spells : V → List Placed → Type 0) (why : List Plac
   pub rest_walks : (u : List Placed) → (progress rule start u).fault ≡ None → walk rule start (progress rule start u).rest ≡ Within (progress rule start u).state
   rest_walks u f = subst (λ (x : Option (Place × Reason)). Kept (progress rule start u).rest (progress rule start u).state x) f (keeps u).kept
 
-  broken_of : (r : List Placed) (f : Place × Reason) (k : IsFaultAt r f) → walk rule start (k.before ++ k.unit ∷ []) ≡ Broken f.1
-  broken_of r f k = walk_push rule start k.state k.before k.unit k.front ∙ ap (λ (n : Next S V). walked rule n) k.broken
+  pub stops : (u : List Placed) (f : Place × Reason) → (progress rule start u).fault ≡ Some f → IsFaultAt (progress rule start u).rest (progress rule start u).state f
+  stops u f e = subst (λ (x : Option (Place × Reason)). Kept (progress rule start u).rest (progress rule start u).state x) e (keeps u).kept
+
+  pub broken_of : (r : List Placed) (s : S) (f : Place × Reason) (k : IsFaultAt r s f) → walk rule start (k.before ++ k.unit ∷ []) ≡ Broken f.1
+  broken_of r s f k = walk_push rule start s k.before k.unit k.front ∙ ap (λ (n : Next S V). walked rule n) k.broken
 
   shorter_front : (a b : List Placed) → IsFront Spells (a ++ b) → IsFront Spells a
   shorter_front a b f = (f.0, b ++ f.1, subst (λ (l : List Placed). Spells f.0 l) (append_assoc a b f.1) f.2)
 
   -- after a front and the unit that breaks it, nothing is at the front of the whole
-  broken_alone : (r : List Placed) (f : Place × Reason) → IsFaultAt r f → NoneStands Spells r
-  broken_alone r f k v a w t e = elim (fronts_meet k.before a (k.unit ∷ k.after) w (sym k.parts ∙ e)) [
+  broken_alone : (r : List Placed) (s : S) (f : Place × Reason) → IsFaultAt r s f → NoneStands Spells r
+  broken_alone r s f k v a w t e = elim (fronts_meet k.before a (k.unit ∷ k.after) w (sym k.parts ∙ e)) [
     | inl m ↦ longer m.0 m.1
-    | inr m ↦ front_alone k.state k.before k.front v a (m.1 ∷ m.0) t m.2
+    | inr m ↦ front_alone s k.before k.front v a (m.1 ∷ m.0) t m.2
   ] where
     longer : (c : List Placed) → a ≡ k.before ++ c → ⊥
-    longer [] m = front_alone k.state k.before k.front v a [] t (sym (append-nil k.before) ∙ sym m ∙ sym (append-nil a))
+    longer [] m = front_alone s k.before k.front v a [] t (sym (append-nil k.before) ∙ sym m ∙ sym (append-nil a))
     longer (h ∷ c) m =
         let same : k.before ++ (k.unit ∷ k.after) ≡ k.before ++ (h ∷ (c ++ w)) = sym k.parts ∙ e ∙ ap (λ l. l ++ w) m ∙ append_assoc k.before (h ∷ c) w in
         let heads : (k.unit ∷ k.after) ≡ (h ∷ (c ++ w)) = append_cancel_left k.before _ _ same in
         let here : h ≡ k.unit = cc in
-        no_front Spells why rule start d f.1 (k.before ++ k.unit ∷ []) (broken_of r f k)
+        no_front Spells why rule start d f.1 (k.before ++ k.unit ∷ []) (broken_of r s f k)
         (v, c, subst (λ (l : List Placed). Spells v l) (m ∙ ap (λ (x : Placed). k.before ++ (x ∷ c)) here ∙ sym (append_assoc k.before (k.unit ∷ []) c)) t)
 
   -- no spelling is at the front of what is kept
   none_stands : (r : List Placed) (s : S) (f : Option (Place × Reason)) → Kept r s f → NoneStands Spells r
   none_stands r s None k = front_alone s r k
-  none_stands r s (Some f) k = broken_alone r f k
+  none_stands r s (Some f) k = broken_alone r s f k
 
   -- two spellings at the front of one list are one
   same_front : (v w : V) (a b x y : List Placed) (l m : Placed) → Spells v (a ++ l ∷ []) → Spells w (b ++ m ∷ []) → a ++ (l ∷ x) ≡ b ++ (m ∷ y) →
@@ -168,18 +168,21 @@ module _ {S V : Type 0} (Spells : V → List Placed → Type 0) (why : List Plac
       let rest : Splits Spells ys q s.2 = subst (λ (w : List Placed). Splits Spells ys q w) (sym same.2) t.6 in
       let more = no_longer xs ys r q s.2 n s.6 rest in omega arith
 
-  ends_of : (r : List Placed) (s : S) (f : Option (Place × Reason)) → Kept r s f → Ends Spells why r f
-  ends_of r s None k = d.goes_on s r k
-  ends_of r s (Some f) k = record {
+  abbrev pub first_fault : (r : List Placed) (s : S) (f : Place × Reason) → IsFaultAt r s f → IsFirstFault Spells why r f
+  first_fault r s f k = record {
     before = k.before;
     unit = k.unit;
     after = k.after;
     parts = k.parts;
-    front = d.goes_on k.state k.before k.front;
-    broken = no_front Spells why rule start d f.1 (k.before ++ k.unit ∷ []) (broken_of r f k);
+    front = d.goes_on s k.before k.front;
+    broken = no_front Spells why rule start d f.1 (k.before ++ k.unit ∷ []) (broken_of r s f k);
     place = k.place;
-    reason = d.reason k.state k.before k.unit f.1 k.front k.broken;
+    reason = d.reason s k.before k.unit f.1 k.front k.broken;
   }
+
+  ends_of : (r : List Placed) (s : S) (f : Option (Place × Reason)) → Kept r s f → Ends Spells why r f
+  ends_of r s None k = d.goes_on s r k
+  ends_of r s (Some f) k = first_fault r s f k
 
   -- the rule computes the reading
   pub reading_is : (u : List Placed) → IsReading Spells why u (reading rule start u)
@@ -215,22 +218,25 @@ module _ {S V : Type 0} (Spells : V → List Placed → Type 0) (why : List Plac
       let k' : s.before ≡ (t.before ++ t.unit ∷ []) ++ c = k ∙ ap (λ (x : Placed). t.before ++ (x ∷ c)) here ∙ sym (append_assoc t.before (t.unit ∷ []) c) in
       t.broken (shorter_front (t.before ++ t.unit ∷ []) c (subst (λ (l : List Placed). IsFront Spells l) k' s.front))
 
-  same_fault : (r : List Placed) (f g : Place × Reason) → IsFirstFault Spells why r f → IsFirstFault Spells why r g → f ≡ g
-  same_fault r f g s t =
+  pub same_before : (r : List Placed) (f g : Place × Reason) (s : IsFirstFault Spells why r f) (t : IsFirstFault Spells why r g) → s.before ≡ t.before
+  same_before r f g s t =
       elim (fronts_meet s.before t.before (s.unit ∷ s.after) (t.unit ∷ t.after) (sym s.parts ∙ t.parts)) [
         | inl m ↦ at_one m.0 m.1
         | inr m ↦ absurd (not_later r f g s t m.1 m.0 m.2)
       ] where
-        at_one : (c : List Placed) → t.before ≡ s.before ++ c → f ≡ g
+        at_one : (c : List Placed) → t.before ≡ s.before ++ c → s.before ≡ t.before
         at_one (h ∷ c) k = absurd (not_later r g f t s h c k)
-        at_one [] k =
-            let same : t.before ≡ s.before = k ∙ append-nil s.before in
-            let all : s.before ++ (s.unit ∷ s.after) ≡ s.before ++ (t.unit ∷ t.after) = sym s.parts ∙ t.parts ∙ ap (λ l. l ++ (t.unit ∷ t.after)) same in
-            let heads : (s.unit ∷ s.after) ≡ (t.unit ∷ t.after) = append_cancel_left s.before _ _ all in
-            let unit : s.unit ≡ t.unit = cc in
-            let place : f.0 ≡ g.0 = s.place ∙ ap (λ (p : Placed). p.place) unit ∙ sym t.place in
-            let reason : f.1 ≡ g.1 = s.reason ∙ ap why (ap (λ (l : List Placed). l ++ s.unit ∷ []) (sym same) ∙ ap (λ (x : Placed). t.before ++ x ∷ []) unit) ∙ sym t.reason in
-            same_pair f g place reason
+        at_one [] k = sym (k ∙ append-nil s.before)
+
+  same_fault : (r : List Placed) (f g : Place × Reason) → IsFirstFault Spells why r f → IsFirstFault Spells why r g → f ≡ g
+  same_fault r f g s t =
+      let same : t.before ≡ s.before = sym (same_before r f g s t) in
+      let all : s.before ++ (s.unit ∷ s.after) ≡ s.before ++ (t.unit ∷ t.after) = sym s.parts ∙ t.parts ∙ ap (λ l. l ++ (t.unit ∷ t.after)) same in
+      let heads : (s.unit ∷ s.after) ≡ (t.unit ∷ t.after) = append_cancel_left s.before _ _ all in
+      let unit : s.unit ≡ t.unit = cc in
+      let place : f.0 ≡ g.0 = s.place ∙ ap (λ (p : Placed). p.place) unit ∙ sym t.place in
+      let reason : f.1 ≡ g.1 = s.reason ∙ ap why (ap (λ (l : List Placed). l ++ s.unit ∷ []) (sym same) ∙ ap (λ (x : Placed). t.before ++ x ∷ []) unit) ∙ sym t.reason in
+      same_pair f g place reason
 
   no_both : (r : List Placed) (g : Place × Reason) → IsFront Spells r → IsFirstFault Spells why r g → ⊥
   no_both r g f t = t.broken (shorter_front (t.before ++ t.unit ∷ []) t.after

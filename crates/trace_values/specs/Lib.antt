@@ -11,7 +11,6 @@ pub mod Hunted
 pub mod Moded
 pub mod Nibbles
 pub mod Decorated
-pub mod Rows
 pub mod Hex
 pub mod Taking
 pub mod ReadingModes

@@ -11,7 +11,6 @@ mod mode;
 mod next;
 mod pattern;
 mod reading_modes;
-pub mod rows;
 mod step;
 mod taking;
 

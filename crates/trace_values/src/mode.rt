@@ -4,7 +4,7 @@ ghost use Rattle.std.specs.Prelude.{◌≡◌};
 ghost use Rattle.trace_values.specs.Moded.{is_locked, skipped_of};
 
 /// Where a decoder is. What it hunts is a run of one unit, and then another unit.
-#[derive(Clone, Copy, Debug, PartialEq, Eq, Drop)]
+#[derive(Clone, Copy, Debug, Drop)]
 pub enum Mode {
     /// It reads from the first unit on.
     Aligned,

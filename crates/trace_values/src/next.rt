@@ -3,7 +3,7 @@
 use crate::fault::Reason;
 
 /// What one more unit says of an unfinished value.
-#[derive(Clone, Copy, Debug, PartialEq, Eq, Drop)]
+#[derive(Clone, Copy, Drop)]
 pub enum Next<S, V> {
     /// The value goes on, in this state.
     Go(S),

@@ -7,7 +7,7 @@ ghost use Rattle.trace_values.specs.Hunted.{pattern_of, run_after};
 /// A pattern of units: a run of one unit, and then another unit.
 ///
 /// A hunt for it keeps one number: the length of the run at the end of the units so far.
-#[derive(Clone, Copy, Debug, PartialEq, Eq, Drop)]
+#[derive(Clone, Copy, Drop)]
 pub struct Pattern {
     /// The unit of the run.
     pub unit: u8,

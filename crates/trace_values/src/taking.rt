@@ -1,7 +1,7 @@
 //! What a machine finds in bytes that are there, and what it takes of them at once.
 
 /// What bytes are to the unfinished packet, as a quick look at them says.
-#[derive(Clone, Copy, Debug, PartialEq, Eq, Drop)]
+#[derive(Clone, Copy, Drop)]
 pub enum Found<P> {
     /// They end it, as these parts say.
     Ends(P),
@@ -12,7 +12,7 @@ pub enum Found<P> {
 }
 
 /// What was taken at once.
-#[derive(Clone, Copy, Debug, PartialEq, Eq, Drop)]
+#[derive(Clone, Copy, Drop)]
 pub struct TakenAtOnce<T> {
     /// How many bytes, at least one.
     pub bytes: usize,

@@ -1,8 +1,7 @@
-use Rattle.std.proofs.Common.{length, ◌++◌, ◌∙◌, ap, arith}
+use Rattle.std.proofs.Common.{length, ◌++◌, ◌∙◌, ap, arith, List}
 use Rattle.trace_funnel.specs.Turns.{load}
 use Rattle.trace_funnel.specs.State.{State, turn_by}
 use Rattle.trace_funnel.specs.declared.tagged.Tagged.{Tagged}
-use Rattle.std.proofs.Common.{List}
 use Rattle.trace_funnel.proofs.Loading.{turn_load}
 use Rattle.trace_funnel.proofs.funnel.Funnel.turn.Goals as goal
 
