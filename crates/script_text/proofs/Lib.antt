@@ -1,4 +1,3 @@
-pub mod Computed
 pub mod Splitting
 pub mod Unnamed
 pub mod Hexadecimals

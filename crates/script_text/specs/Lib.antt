@@ -10,6 +10,5 @@ pub mod Lines
 pub mod Said
 pub mod Quick
 pub mod VersionTwo
-pub mod Rows
 pub mod Bytes
 pub mod Table

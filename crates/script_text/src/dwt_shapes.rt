@@ -12,7 +12,7 @@ use dwt_packets::{Change, DwtItem, meaning};
 use itm_grammar::packet::Size;
 
 /// What the fixed words of a hardware packet's text tell.
-#[derive(Clone, Copy, Debug, PartialEq, Eq, Drop)]
+#[derive(Clone, Copy, Drop)]
 pub enum DwtShape {
     Counters,
     Exception(Change),

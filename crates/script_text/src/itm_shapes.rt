@@ -12,7 +12,7 @@ use itm_grammar::packet::{ItmPacket, Lateness, Size};
 use itm_grammar::proper::is_proper;
 
 /// What the fixed words of an ITM packet's text tell.
-#[derive(Clone, Copy, Debug, PartialEq, Eq, Drop)]
+#[derive(Clone, Copy, Drop)]
 pub enum ItmShape {
     Sync,
     Overflow,

@@ -11,7 +11,6 @@ mod places;
 mod quick;
 mod quick_datum;
 mod raw_bytes;
-pub mod rows;
 mod shapes;
 mod stamps;
 mod stp_shapes;

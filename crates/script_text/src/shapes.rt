@@ -22,7 +22,7 @@ pub enum Field {
 }
 
 /// What the fixed words of an item's text tell.
-#[derive(Clone, Copy, Debug, PartialEq, Eq, Drop)]
+#[derive(Clone, Copy, Drop)]
 pub enum Shape {
     Itm(ItmShape),
     Dwt(DwtShape),

@@ -16,7 +16,7 @@ use stp_grammar::item::{Place, Stamp, StpItem};
 use stp_grammar::packet::Width;
 
 /// What the fixed words of an STP item's text tell.
-#[derive(Clone, Copy, Debug, PartialEq, Eq, Drop)]
+#[derive(Clone, Copy, Drop)]
 pub enum StpShape {
     Async,
     Version,

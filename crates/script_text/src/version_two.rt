@@ -14,7 +14,7 @@ use decimal_words::id_in;
 use source_events::Plan;
 
 /// A line of a script of version 2.
-#[derive(Debug, Drop)]
+#[derive(Drop)]
 pub enum Line2 {
     /// A line that version 1 has too.
     One(Line),

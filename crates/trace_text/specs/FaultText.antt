@@ -19,7 +19,3 @@ abbrev pub fault_line : Bool → Place × (Reason × Option ℕ) → List ℕ
 fault_line stp fault =
     codes "fault " ++ (at_text stp fault.0 ++ (codes " " ++ (source_text fault.1.1
     ++ (codes " " ++ reason_text fault.1.0))))
-
--- `fault AT port R NAME`: of the port
-abbrev pub port_fault_line : Place × Reason → List ℕ
-port_fault_line fault = fault_line false (fault.0, (fault.1, None))

@@ -14,4 +14,3 @@ pub mod NoteText
 pub mod Digits
 pub mod Pairs
 pub mod Puts
-pub mod Rows

@@ -291,10 +291,10 @@ pub fn put_line(
     outlet.put(&line);
 }
 
-/// Puts the line of an item of this STP source, which ends in this half of the byte at this offset. It is what `print`
-/// puts for that event, which is not made. The digits of the offset and the text of a place are kept for the next line.
-#[inline(always)]
-pub fn put_stp_line(
+/// Puts the line of an item of this STP source, which ends in this half of the byte at this offset. The digits of the
+/// offset and the text of a place are kept for the next line.
+#[inline(never)]
+pub(crate) fn put_stp_line(
     outlet: &mut Outlet,
     digits: &mut Digits,
     at: u64,

@@ -1,8 +1,0 @@
-use Rattle.std.proofs.Common.{rules}
-use Rattle.script_text.proofs.Computed.{line2_of, trigger_said, line_of, line_of_words, shape_named, itm_of, dwt_of}
-use Rattle.script_text.proofs.Computed.{name, stp_of, raw_named, hexadecimal_named, digits, decode_pairs}
-use Rattle.script_text.proofs.rows.new_lines.Goals as goal
-
-pub returns : goal.returns
-unfolding line2_of trigger_said line_of line_of_words shape_named itm_of dwt_of name stp_of raw_named hexadecimal_named digits decode_pairs
-returns c = search rules
