@@ -12,6 +12,9 @@ use Rattle.source_merge.specs.declared.flow.Flow.{Flow}
 use Rattle.source_merge.specs.declared.flow.Flow.TheVariants.{Stopped}
 use Rattle.source_merge.specs.Engine.{next_of}
 use Rattle.source_merge.specs.Front.{Reads}
+use Rattle.capture_actions.specs.CaptureReading.{IsLive}
+use Rattle.capture_actions.specs.CaptureReading.{Stands as HasRead}
+use Rattle.capture_actions.specs.declared.reading.CaptureReading.{CaptureReading}
 use Rattle.capture_actions.specs.Faulty.{IsFaulty}
 use Rattle.capture_actions.specs.Stopping.{is_stopped, stop_by}
 
@@ -91,23 +94,19 @@ module _ (old new : Engine) (seen bytes : List ℕ) (at : ℕ) (given : List (Ev
   pub flow_after : FaultAfter (IsFaulty (plan_of old)) (seen ++ bytes) (is_stopped flow)
   flow_after = flows (plan_of old) seen bytes at given flow here reads
 
--- an engine after a whole frame that it counted, and what an action keeps of it
-module _ (old new : Engine) (seen bytes : List ℕ) (at : ℕ) (stands : Stands old (placed seen)) (next : at ≡ next_of old)
-    (same : plan_of new ≡ plan_of old) (live : is_live new ≡ true) (list : Stands new (placed seen ++ placed_from at bytes)) where
+-- an engine after whole frames that it counted, and what is kept of it
+module _ (old new : Engine) (seen bytes : List ℕ) (stands : Stands old (placed seen))
+    (list : Stands new (placed seen ++ placed_from (next_of old) bytes)) where
   pub counted_stands : Stands new (placed (seen ++ bytes))
   counted_stands =
-      subst (λ (u : List Placed). Stands new u) (next_bytes seen bytes at (next ∙ stands.next ∙ capture_end seen)) list
+      subst (λ (u : List Placed). Stands new u) (next_bytes seen bytes (next_of old) (stands.next ∙ capture_end seen)) list
 
-  counted_none : fault_of (plan_of new) (placed (seen ++ bytes)) ≡ None
-  counted_none = is_nothing (fault_of (plan_of new) (placed (seen ++ bytes))) (sym live ∙ counted_stands.live)
-
-  pub counted_stop : (stop : Option Stop) → is_none stop ≡ true →
+  pub counted_stop : is_live new ≡ true → (stop : Option Stop) → is_none stop ≡ true →
       option_map stop_of stop ≡ fault_of (plan_of new) (placed (seen ++ bytes))
-  counted_stop None h = sym counted_none
-  counted_stop (Some stop) h = cc
+  counted_stop live None h = sym (is_nothing (fault_of (plan_of new) (placed (seen ++ bytes))) (sym live ∙ counted_stands.live))
+  counted_stop live (Some stop) h = cc
 
-  pub counted_on : FaultAfter (IsFaulty (plan_of old)) (seen ++ bytes) false
-  counted_on h =
-      (let k : fault_of (plan_of old) (placed (seen ++ bytes)) ≡ None =
-      sym (ap (λ (plan : Plan). fault_of plan (placed (seen ++ bytes))) same) ∙ counted_none in
-      let l = ap (λ (o : Fault). is_none o) k in let m = h in cc)
+-- a reading without a fault
+pub sound_here : (reading : CaptureReading) (seen : List ℕ) → IsLive reading → HasRead reading seen →
+    FaultAfter (IsFaulty (plan_of reading.engine)) seen false
+sound_here reading seen live stands h = (let k = sym live ∙ stands.engine.live in let m = h in cc)

@@ -1,104 +1,55 @@
 -- What a call of `show` made of the front of a piece, from what the engine took and what was put.
 use Rattle.std.proofs.Common.{◌≡◌, ◌∙◌, ℕ, ◌+◌, ◌-◌, [], List, ◌++◌, length, take, drop, sym, ap, subst, append_assoc, length-append, arith, Bool, false}
-use Rattle.std.specs.Prelude.{option_map, Option}
 use Rattle.std.proofs.lemmas.List.{take_all, length-drop}
 use Rattle.std.proofs.Math.Seq.{take-add}
-use Rattle.capture_actions.specs.Names.{Placed, placed, placed_from, Meaning, HasTaken, FaultAfter, Event}
-use Rattle.capture_actions.specs.Names.{Stop, Packet, Plan, stop_of, report_of, Engine, Going, ReadsTo}
-use Rattle.source_merge.specs.Answering.{goes_on}
-use Rattle.source_merge.specs.declared.flow.Flow.{Flow}
-use Rattle.source_merge.specs.declared.flow.Flow.TheVariants.{Stopped}
-use Rattle.source_merge.specs.Engine as engine
+use Rattle.capture_actions.specs.Names.{placed, Meaning, HasTaken, FaultAfter, Event, Packet, Plan, report_of}
 use Rattle.capture_actions.specs.declared.list_plan.ListPlan.{ListPlan}
-use Rattle.capture_actions.specs.declared.lister.Lister.{Lister}
 use Rattle.capture_actions.specs.declared.show.Show.{Show}
-use Rattle.capture_actions.specs.Stopping.{is_stopped, stop_by}
+use Rattle.capture_actions.specs.CaptureReading as readings
+use Rattle.capture_actions.specs.CaptureReading.{ReadsOn}
 use Rattle.capture_actions.specs.Filter.{plan_by, HasSeen}
 use Rattle.capture_actions.specs.Lister.{ListerGets}
 use Rattle.capture_actions.specs.LineLaws.{lines_append}
 use Rattle.capture_actions.specs.Listing.{lines_after, show_meaning}
-use Rattle.capture_actions.specs.Show.{plan_of, IsLive, Stands}
+use Rattle.capture_actions.specs.Show.{plan_of, taken_by, IsLive, Stands}
 use Rattle.capture_actions.specs.Feeding.{HasFed}
 use Rattle.capture_actions.specs.SourceClocks.{AllStand}
-use Rattle.capture_actions.proofs.Feeding.{stands_after, report_after, report_here, stop_after, flow_after}
 
--- what the engine took, and the fault that was kept
-pub record Took (old new : Engine) (was now : Option Stop) (at : ℕ) (bytes : List ℕ) (given : List (Event Packet))
-    (flow : Flow) : Type 0 where
-  pub at_is : at ≡ engine.next_of old
-  pub count : engine.next_of new ≡ at + length bytes
-  pub live : engine.is_live new ≡ goes_on flow
-  pub same : engine.plan_of new ≡ engine.plan_of old
-  pub list : (u : List Placed) → engine.Stands old u → engine.Stands new (u ++ placed_from at bytes)
-  pub reads : ReadsTo old at bytes flow given
-  pub stop : now ≡ stop_by flow was
-
--- what was put for these events of a capture that is read by this plan
-pub record Put (plan : Plan) (old new : Lister) (given : List (Event Packet)) (before after : List ℕ) : Type 0 where
-  pub kept : new.plan ≡ old.plan
-  pub asked : plan_by plan new.filter ≡ plan_by plan old.filter
-  pub clocks : (es : List (Event Packet)) → AllStand old.clocks es → AllStand new.clocks (es ++ given)
-  pub seen : (es : List (Event Packet)) → HasSeen old.filter es → HasSeen new.filter (es ++ given)
-  pub text : old.plan ≡ plan → (es : List (Event Packet)) → AllStand old.clocks es → HasSeen old.filter es →
-      after ≡ before ++ lines_after (plan_by plan old.filter) es given
-
--- what a lister was given, it put
-pub given_put : (plan : Plan) (old new : Lister) (given : List (Event Packet)) (before after : List ℕ) →
-    ListerGets (old, before) given (new, after) → Put plan old new given before after
-given_put plan old new given before after g = record {
-  kept = g.kept;
-  asked = ap (λ (p : ListPlan). record { plan = plan; only = p.only; window = p.window }) g.asked;
-  clocks = g.clocks;
-  seen = g.seen;
-  text = λ e es h f.
-      g.text es es h f ∙ ap (λ (p : Plan). before ++ lines_after (plan_by p old.filter) es given) e;
-}
-
-module _ (old new : Show) (at : ℕ) (bytes : List ℕ) (given : List (Event Packet)) (flow : Flow)
-    (before after : List ℕ) (live : IsLive old)
-    (took : Took old.engine new.engine old.stop new.stop at bytes given flow)
-    (put : Put (engine.plan_of old.engine) old.lister new.lister given before after) where
+-- a call in which the reading grew by these events, which the lister was given
+module _ (old new : Show) (bytes : List ℕ) (given : List (Event Packet)) (is_faulty : Bool) (before after : List ℕ)
+    (same : readings.plan_of new.reading ≡ readings.plan_of old.reading)
+    (count : taken_by new ≡ taken_by old + length bytes) (live : is_faulty ≡ false → IsLive new)
+    (reads : ReadsOn old.reading new.reading bytes is_faulty given)
+    (put : ListerGets (old.lister, before) given (new.lister, after)) where
   taken : (seen : List ℕ) → Stands old seen → HasTaken (Stands new) (show_meaning (plan_of old))
-      (record { seen = seen; front = bytes; before = before; after = after }) (is_stopped flow)
+      (record { seen = seen; front = bytes; before = before; after = after }) is_faulty
   taken seen s =
-      let e = old.engine in
-      let k = new.engine in
-      let list = took.list (placed seen) s.engine in
-      let reads = took.reads (placed seen) s.engine in
       let p = plan_of old in
       let report = report_of p.plan (placed seen) in
-      let grew = report_after e k seen bytes at given flow s.engine took.at_is took.same list reads in
+      let one = reads seen s.reading in
+      let grew = ap (λ (plan : Plan). report_of plan (placed (seen ++ bytes))) same ∙ one.report in
       record {
         read = record {
-          engine = stands_after e k seen bytes at given flow s.engine took.at_is took.same list reads;
-          plan = put.kept ∙ s.plan ∙ sym took.same;
+          reading = one.stands;
+          plan = put.kept ∙ s.plan ∙ sym same;
           clocks = subst (λ (es : List (Event Packet)). AllStand new.lister.clocks es) (sym grew) (put.clocks report s.clocks);
           filter = subst (λ (es : List (Event Packet)). HasSeen new.lister.filter es) (sym grew) (put.seen report s.filter);
-          stop = ap (option_map stop_of) took.stop
-              ∙ stop_after e k seen bytes at given flow s.engine took.at_is took.same list reads old.stop
-              (sym old.alive ∙ live);
         };
         more = lines_after p report given;
-        grown = ap (lines_after p []) (report_here e k seen bytes at given flow s.engine took.at_is took.same list reads)
-            ∙ lines_append p [] report given;
-        gained = put.text s.plan report s.clocks s.filter;
-        fault = flow_after e k seen bytes at given flow s.engine took.at_is took.same list reads;
+        grown = ap (lines_after p []) one.report ∙ lines_append p [] report given;
+        gained = put.text report report s.clocks s.filter
+            ∙ ap (λ (plan : Plan). before ++ lines_after (plan_by plan old.lister.filter) report given) s.plan;
+        fault = one.fault;
       }
 
-  on_live : (flow : Flow) → engine.is_live new.engine ≡ goes_on flow → is_stopped flow ≡ false → IsLive new
-  on_live Going h on = h
-  on_live (Stopped stop) h on = cc
-
-  pub has_fed : HasFed old new bytes (is_stopped flow) before after
+  pub has_fed : HasFed old new bytes is_faulty before after
   has_fed = record {
-    same = ap (λ (p : Plan). plan_by p new.lister.filter) took.same ∙ put.asked;
-    count = took.count ∙ ap (λ (n : ℕ). n + length bytes) took.at_is;
-    live = on_live flow took.live;
+    same = ap (λ (plan : Plan). plan_by plan new.lister.filter) same
+        ∙ ap (λ (p : ListPlan). record { plan = readings.plan_of old.reading; only = p.only; window = p.window }) put.asked;
+    count = count;
+    live = live;
     fed = taken;
   }
-
-  pub has_fed_by : (is_faulty : Bool) → is_faulty ≡ is_stopped flow → HasFed old new bytes is_faulty before after
-  has_fed_by is_faulty e = subst (λ (b : Bool). HasFed old new bytes b before after) (sym e) has_fed
 
 -- two calls, one after the other
 module _ (old mid new : Show) (front next : List ℕ) (is_faulty : Bool) (before between after : List ℕ)

@@ -6,7 +6,6 @@ pub mod Feeds
 pub mod Printing
 pub mod Sources
 pub mod Counting
-pub mod Shown
 pub mod Filtering
 pub mod Wanted
 pub mod Choosing
@@ -14,5 +13,5 @@ pub mod Few
 pub mod Values
 pub mod Tallies
 pub mod Parts
-pub mod Reading
+pub mod ReadWhole
 pub mod Kinded

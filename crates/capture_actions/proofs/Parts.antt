@@ -14,13 +14,15 @@ use Rattle.capture_actions.specs.Names.{stop_of, fault_of, source_counts_of, por
 use Rattle.capture_actions.specs.KindCheck.{last_by}
 use Rattle.capture_actions.specs.KindCounts.{HasCounted, number_at}
 use Rattle.capture_actions.specs.KindLines.{PutsPart, counted_line, line_of, owed, parts_by}
-use Rattle.capture_actions.specs.Kinds.{kind_text, words_text, source_kinds_text, kinds_in, lines_by, all_lines, ending_of, kinds_by, none}
+use Rattle.capture_actions.specs.Kinds.{kind_text, words_text, source_kinds_text, kinds_in, lines_by, all_lines, kinds_by, none}
+use Rattle.capture_actions.specs.Listing.{ending_by}
 use Rattle.capture_actions.specs.Summary.{source_text}
 use Rattle.capture_actions.specs.Words.{number_of}
 use Rattle.capture_actions.specs.declared.item_word.ItemWord.{ItemWord}
 use Rattle.capture_actions.specs.declared.item_word.TheConstants.{WORDS}
 use Rattle.capture_actions.specs.declared.kind_counts.KindCounts.{KindCounts}
 use Rattle.capture_actions.specs.declared.kind_lines.KindLines.{KindLines}
+use Rattle.capture_actions.specs.declared.kind_lines.Part.{Part}
 use Rattle.capture_actions.specs.declared.kind_lines.Part.TheVariants.{Nothing, Source, Last}
 use Rattle.capture_actions.proofs.Tallies.{few_words}
 
@@ -90,7 +92,7 @@ module _ (plan : Plan) (kinds : KindCounts) (es : List (Event Packet)) (counted 
 
   last_is : (u : List Placed) (stop : Option Stop) (tails : Option Tails) →
       (is_none stop ≡ true → tails ≡ Some (tails_of plan u)) →
-      last_by plan stop tails ≡ ending_of plan u (option_map stop_of stop)
+      last_by plan stop tails ≡ ending_by plan u (option_map stop_of stop)
   last_is u None tails ends = ap (last_by plan None) (ends refl)
   last_is u (Some stop) tails ends = refl
 
@@ -191,6 +193,13 @@ puts_source line old new before after e few some put = record {
   source = λ k last. pours_line line last new before after old e few some put;
   last = λ k. cc;
 }
+
+-- by an equal plan
+pub puts_by : (p q : Plan) (part : Part) (kinds : KindCounts) (old new : KindLines) (before after : List ℕ) → p ≡ q →
+    PutsPart part (owed p kinds old) (owed p kinds new) before after →
+    PutsPart part (owed q kinds old) (owed q kinds new) before after
+puts_by p q part kinds old new before after e h =
+    subst (λ (r : Plan). PutsPart part (owed r kinds old) (owed r kinds new) before after) e h
 
 -- where nothing is owed nothing is, whatever else the parts are then
 paid_by : (old new : ℕ → List ℕ) (left : ℕ) (out : List ℕ) → owing (old left) left ≡ Paid →

@@ -1,6 +1,6 @@
 -- The clocks of all sources after one more packet of one of them.
 use Rattle.std.proofs.Common.{◌≡◌, ◌≢◌, ℕ, ◌<◌, inl, inr, List, [], ◌∷◌, ◌++◌, length, get_or, set, sym, ◌∙◌, ap, subst, append-nil, refl, arith, Option, None, Some, Bool, true, false, cond}
-use Rattle.std.specs.Prelude.{◌==◌, not}
+use Rattle.std.specs.Prelude.{not}
 use Rattle.std.proofs.lemmas.Bool.{cases_eq}
 use Rattle.std.proofs.lemmas.Bool.Decides.{nat_tests}
 use Rattle.std.proofs.lemmas.List.{get_or-set_same, get_or-set_other}
@@ -11,13 +11,8 @@ use Rattle.capture_actions.specs.Listing.{itm_packet, itm_packets}
 use Rattle.capture_actions.specs.LineLaws.{packets_push}
 use Rattle.capture_actions.specs.Names.{is_stamp}
 use Rattle.capture_actions.specs.SourceClocks.{without}
+use Rattle.capture_actions.proofs.Tallies.{same, other}
 use Rattle.capture_actions.proofs.Timing.{after_other, no_times}
-
-same_number : (id x : ℕ) → x ≡ id → (id == x) ≡ true
-same_number id x h = grind (arith, nat_tests)
-
-other_number : (id x : ℕ) → x ≢ id → (id == x) ≡ false
-other_number id x h = grind (arith, nat_tests)
 
 module _ (es : List (Event Packet)) (e : Event Packet) (packet : ItmPacket) (id : ℕ) (source : e.source ≡ Some id)
     (what : itm_packet e.what ≡ packet ∷ []) where
@@ -25,14 +20,14 @@ module _ (es : List (Event Packet)) (e : Event Packet) (packet : ItmPacket) (id 
   own x h =
       packets_push (Some x) es e
       ∙ ap (λ (o : Option ℕ). itm_packets (Some x) es ++ cond (is_of (Some x) o) (itm_packet e.what) []) source
-      ∙ ap (λ (b : Bool). itm_packets (Some x) es ++ cond b (itm_packet e.what) []) (same_number id x h)
+      ∙ ap (λ (b : Bool). itm_packets (Some x) es ++ cond b (itm_packet e.what) []) (same id x h)
       ∙ ap (λ (l : List ItmPacket). itm_packets (Some x) es ++ l) what
 
   another : (x : ℕ) → x ≢ id → itm_packets (Some x) (es ++ e ∷ []) ≡ itm_packets (Some x) es
   another x h =
       packets_push (Some x) es e
       ∙ ap (λ (o : Option ℕ). itm_packets (Some x) es ++ cond (is_of (Some x) o) (itm_packet e.what) []) source
-      ∙ ap (λ (b : Bool). itm_packets (Some x) es ++ cond b (itm_packet e.what) []) (other_number id x h)
+      ∙ ap (λ (b : Bool). itm_packets (Some x) es ++ cond b (itm_packet e.what) []) (other id x h)
       ∙ append-nil (itm_packets (Some x) es)
 
   -- those of its source took it, and all others stay

@@ -31,10 +31,10 @@ count_push x k es e =
     let f : Event Packet → ℕ = λ v. one x k v.source (word_of v.what) in
     sum_by-append f es (e ∷ []) ∙ ap (λ (n : ℕ). sum_by f es + n) (zero-add (f e))
 
-same : (a b : ℕ) → b ≡ a → (a == b) ≡ true
+pub same : (a b : ℕ) → b ≡ a → (a == b) ≡ true
 same a b h = grind (arith, nat_tests)
 
-other : (a b : ℕ) → b ≢ a → (a == b) ≡ false
+pub other : (a b : ℕ) → b ≢ a → (a == b) ≡ false
 other a b h = grind (arith, nat_tests)
 
 never : (b : Bool) → bit (b && false) ≡ 0

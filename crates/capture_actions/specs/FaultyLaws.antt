@@ -27,7 +27,8 @@ front_stays : (is_sound : List ℕ → Bool) (front xs ys : List ℕ) → is_sou
     front_from is_sound front (xs ++ ys) ≡ front_from is_sound front xs
 front_stays is_sound front [] [] h = refl
 front_stays is_sound front [] (y ∷ ys) h =
-    ap (λ (t : Bool). cond t (front_from is_sound (front ++ y ∷ []) ys) front) (ap is_sound (sym (append-nil front)) ∙ h)
+    ap (λ (t : Bool). cond t (front_from is_sound (front ++ y ∷ []) ys) front)
+    (ap is_sound (sym (append-nil front)) ∙ h)
 front_stays is_sound front (x ∷ xs) ys h =
     ap (λ (l : List ℕ). cond (is_sound front) l front)
     (front_stays is_sound (front ++ x ∷ []) xs ys (ap is_sound (append_assoc front (x ∷ []) xs) ∙ h))

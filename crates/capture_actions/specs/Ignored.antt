@@ -2,7 +2,7 @@
 use Rattle.std.specs.Prelude.{ℕ, List, [], ◌++◌, ⊤}
 use Rattle.capture_actions.specs.Names.{Event, Packet}
 use Rattle.capture_actions.specs.declared.check.Ignored.{Ignored}
-use Rattle.capture_actions.specs.declared.check.TheConstants.{MANY}
+use Rattle.capture_actions.specs.declared.kind_counts.TheConstants.{MANY}
 
 abbrev pub gets : Ignored × Unit {0} → List (Event Packet) → Ignored × Unit {0} → Type 0
 gets old es new = ⊤

@@ -1,9 +1,9 @@
 -- What the action of `check` with kinds stands for, and what it owes.
-use Rattle.std.specs.Prelude.{◌≡◌, ℕ, List, [], true, option_map, Option, None, Some}
-use Rattle.capture_actions.specs.Names.{placed, Plan, Stop, stop_of, fault_of, report_of, Debt}
+use Rattle.std.specs.Prelude.{◌≡◌, ℕ, List, [], Option, None, Some}
+use Rattle.capture_actions.specs.Names.{placed, Plan, Stop, stop_of, report_of, Debt}
 use Rattle.capture_actions.specs.Names.{tails_text, fault_line}
 use Rattle.source_events.specs.declared.tails.Tails.{Tails}
-use Rattle.source_merge.specs.Engine as reading
+use Rattle.capture_actions.specs.CaptureReading as readings
 use Rattle.capture_actions.specs.Faulty.{is_stp, read_of}
 use Rattle.capture_actions.specs.KindCounts.{HasCounted}
 use Rattle.capture_actions.specs.KindLines.{owed}
@@ -11,22 +11,20 @@ use Rattle.capture_actions.specs.declared.kind_check.KindCheck.{KindCheck}
 
 -- what it was asked for
 abbrev pub plan_of : KindCheck → Plan
-plan_of check = reading.plan_of check.engine
+plan_of check = readings.plan_of check.reading
 
--- its engine stands for these bytes, none of which is after the fault, it has counted the events of their report, and it
--- keeps the fault of it
+-- it has read these bytes, none of which is after the fault, and has counted the events of their report
 pub record Stands (check : KindCheck) (seen : List ℕ) : Type 0 where
-  pub engine : reading.Stands check.engine (placed seen)
-  pub read : read_of (reading.plan_of check.engine) seen ≡ seen
-  pub kinds : HasCounted check.kinds (report_of (reading.plan_of check.engine) (placed seen))
-  pub stop : option_map stop_of check.stop ≡ fault_of (reading.plan_of check.engine) (placed seen)
+  pub reading : readings.Stands check.reading seen
+  pub read : read_of (plan_of check) seen ≡ seen
+  pub kinds : HasCounted check.kinds (report_of (plan_of check) (placed seen))
 
 -- how many bytes it took
 abbrev pub taken_by : KindCheck → ℕ
-taken_by check = reading.next_of check.engine
+taken_by check = readings.taken_by check.reading
 
 abbrev pub IsLive : KindCheck → Type 0
-IsLive check = reading.is_live check.engine ≡ true
+IsLive check = readings.IsLive check.reading
 
 -- what comes after the lines of all sources
 abbrev pub last_by : Plan → Option Stop → Option Tails → List ℕ
@@ -36,4 +34,4 @@ last_by plan None None = []
 
 -- what is still to be put
 abbrev pub debt_of : KindCheck → Debt
-debt_of check = owed (plan_of check) check.kinds check.lines (last_by (plan_of check) check.stop check.tails)
+debt_of check = owed (plan_of check) check.kinds check.lines (last_by (plan_of check) check.reading.stop check.tails)

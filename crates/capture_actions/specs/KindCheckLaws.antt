@@ -13,9 +13,9 @@ kinds_lawful plan = record {
   faulty_stays = laws.faulty_stays plan;
   text_stays = λ xs ys h. refl;
   ending_stays = λ xs ys h.
-      ap (λ (l : List ℕ). kinds_by plan (placed l) (report_of plan (placed (xs ++ ys))) (fault_of plan (placed (xs ++ ys))))
-      (laws.read_stays plan xs ys h)
-      ∙ ap (λ (l : List (Event Packet)). kinds_by plan (placed (read_of plan xs)) l (fault_of plan (placed (xs ++ ys))))
+      let u = placed (xs ++ ys) in
+      ap (λ (l : List ℕ). kinds_by plan (placed l) (report_of plan u) (fault_of plan u)) (laws.read_stays plan xs ys h)
+      ∙ ap (λ (l : List (Event Packet)). kinds_by plan (placed (read_of plan xs)) l (fault_of plan u))
       (laws.same_report plan xs ys h)
       ∙ ap (kinds_by plan (placed (read_of plan xs)) (report_of plan (placed xs))) (laws.same_fault plan xs ys h);
   text_grows = λ xs ys. ([], refl);

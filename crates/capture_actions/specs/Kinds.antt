@@ -1,15 +1,16 @@
--- What `check` writes that counts kinds: after the line of a mapped source one for each word with which its items begin.
-use Rattle.std.specs.Prelude.{ℕ, List, [], ◌++◌, flat_map, codes, decimal, min, Option, Some, None, ◌==◌}
+-- What `check` writes that counts kinds: after the line of a mapped source one for each word that begins its items.
+use Rattle.std.specs.Prelude.{ℕ, List, [], ◌++◌, flat_map, codes, decimal, min, Option, ◌==◌}
 use Rattle.std.specs.Prelude.{if◌then◌else◌, false}
 use Rattle.std.specs.Option.{is_some}
 use Rattle.std.specs.List.{range_with_len}
 use Rattle.capture_actions.specs.Names.{Reason, ID_COUNT, Place, Placed, placed, Meaning, Plan, port_counts_of}
-use Rattle.capture_actions.specs.Names.{source_counts_of, tails_of, fault_of, port_counts_text, tails_text, fault_line}
+use Rattle.capture_actions.specs.Names.{source_counts_of, fault_of, port_counts_text}
 use Rattle.capture_actions.specs.Names.{Event, Packet, report_of}
 use Rattle.source_events.specs.Plan.{kind_of}
 use Rattle.source_counts.specs.declared.counts.Counts.{Counts}
-use Rattle.capture_actions.specs.Faulty.{is_stp, IsFaulty, read_of}
+use Rattle.capture_actions.specs.Faulty.{IsFaulty, read_of}
 use Rattle.capture_actions.specs.KindCounts.{kind_count, MOST}
+use Rattle.capture_actions.specs.Listing.{ending_by}
 use Rattle.capture_actions.specs.Summary.{source_text}
 use Rattle.capture_actions.specs.Words.{text_of}
 use Rattle.capture_actions.specs.declared.item_word.ItemWord.{ItemWord}
@@ -50,17 +51,12 @@ lines_by line first count = flat_map line (range_with_len first count)
 abbrev pub all_lines : Plan → (ℕ → Counts) → List (Event Packet) → List ℕ
 all_lines plan counts es = lines_by (λ id. source_kinds_text plan id (counts id) (kinds_in es id)) 0 ID_COUNT
 
--- the end lines, or the line of the fault in their place
-abbrev pub ending_of : Plan → List Placed → Option (Place × (Reason × Option ℕ)) → List ℕ
-ending_of plan u None = tails_text (tails_of plan u)
-ending_of plan u (Some fault) = fault_line (is_stp plan fault.1.1) fault
-
 -- the counts of the port and of all sources with their kinds, and the end lines or the fault's line
 abbrev pub kinds_by : Plan → List Placed → List (Event Packet) → Option (Place × (Reason × Option ℕ)) → List ℕ
 kinds_by plan u es fault =
     let port = port_counts_of plan u in
     port_counts_text port.fulls port.halves port.frames
-    ++ (all_lines plan (source_counts_of plan u) es ++ ending_of plan u fault)
+    ++ (all_lines plan (source_counts_of plan u) es ++ ending_by plan u fault)
 
 -- At a fault the counts are those of the bytes up to the one with which it is certain: that is the last of the frame
 -- that the fault is in.

@@ -28,6 +28,7 @@ pub mod SourceClocks
 pub mod Filter
 pub mod Lister
 pub mod ListerLaws
+pub mod CaptureReading
 pub mod Show
 pub mod Feeding
 pub mod Summary
@@ -43,6 +44,4 @@ pub mod PortTextLaws
 pub mod PortValues
 pub mod PortValuesLaws
 pub mod PortTexter
-pub mod Rows
-pub mod KindRows
 pub mod Stopping

@@ -3,7 +3,7 @@ use Rattle.std.proofs.Common.{◌≡◌, ℕ, List, [], ◌∷◌, ◌++◌, sym
 use Rattle.std.proofs.lemmas.Grind.{flat_map-append}
 use Rattle.capture_actions.specs.Names.{ItmPacket, Event, Packet, is_of}
 use Rattle.capture_actions.specs.declared.list_plan.ListPlan.{ListPlan}
-use Rattle.capture_actions.specs.Listing.{itm_packet, itm_packets, line_after, line_by, lines_after, lines_from}
+use Rattle.capture_actions.specs.Listing.{itm_packet, itm_packets, line_by, lines_after, lines_from}
 
 pub lines_more : (p : ListPlan) (clocked seen xs ys : List (Event Packet)) →
     lines_from p clocked seen (xs ++ ys) ≡ lines_from p clocked seen xs ++ lines_from p (clocked ++ xs) (seen ++ xs) ys
@@ -24,12 +24,6 @@ lines_more p clocked seen (x ∷ xs) ys =
 pub lines_append : (p : ListPlan) (before xs ys : List (Event Packet)) →
     lines_after p before (xs ++ ys) ≡ lines_after p before xs ++ lines_after p (before ++ xs) ys
 lines_append p before xs ys = lines_more p before before xs ys
-
-pub lines_push : (p : ListPlan) (before xs : List (Event Packet)) (e : Event Packet) →
-    lines_after p before (xs ++ e ∷ []) ≡ lines_after p before xs ++ line_after p (before ++ xs) e
-lines_push p before xs e =
-    lines_append p before xs (e ∷ [])
-    ∙ ap (λ (l : List ℕ). lines_after p before xs ++ l) (append-nil (line_after p (before ++ xs) e))
 
 pub packets_push : (source : Option ℕ) (es : List (Event Packet)) (e : Event Packet) →
     itm_packets source (es ++ e ∷ []) ≡ itm_packets source es ++ cond (is_of source e.source) (itm_packet e.what) []

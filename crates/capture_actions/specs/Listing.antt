@@ -2,8 +2,8 @@
 use Rattle.std.specs.Prelude.{ℕ, List, [], ◌∷◌, ◌++◌, flat_map, filter, Option, Some, None, Bool, true, not, ◌&&◌, ◌||◌}
 use Rattle.std.specs.Prelude.{if◌then◌else◌, false}
 use Rattle.capture_actions.specs.Names.{Reason, Place, Placed, placed, Meaning, ItmPacket, Event, What, Packet, Itm}
-use Rattle.capture_actions.specs.Names.{Plan, is_of, is_item, tails_of, report_of, fault_of, Bounds, Choice, holds, holds_any}
-use Rattle.capture_actions.specs.Names.{Remark, None as NoRemark, event_line, fault_line, tails_text}
+use Rattle.capture_actions.specs.Names.{Plan, is_of, is_item, tails_of, report_of, fault_of, Bounds, Choice, holds}
+use Rattle.capture_actions.specs.Names.{holds_any, Remark, None as NoRemark, event_line, fault_line, tails_text}
 use Rattle.source_events.specs.declared.event.What.TheVariants.{Packet as Said}
 use Rattle.item_tap.specs.Windows.{passes}
 use Rattle.capture_actions.specs.declared.list_plan.ListPlan.{ListPlan}

@@ -8,9 +8,13 @@ use Rattle.capture_actions.specs.Names.{Meaning, Debt, owing}
 use Rattle.trace_stream.specs.Owed.{last_of}
 use Rattle.capture_actions.specs.declared.ring.Ring.{Ring}
 
--- no bytes have a fault, nothing is written for any, and at their end comes the image of a buffer of this size
+-- no bytes have a fault, nothing is written for any, and this is at their end
+abbrev pub at_end : (List ℕ → List ℕ) → Meaning
+at_end ending = record { faulty = λ bytes. ⊥; text = λ bytes. []; ending = ending; due = false }
+
+-- at the end comes the image of a buffer of this size
 abbrev pub ring_meaning : ℕ → Meaning
-ring_meaning size = record { faulty = λ bytes. ⊥; text = λ bytes. []; ending = image size; due = false }
+ring_meaning size = at_end (image size)
 
 -- its buffer
 abbrev pub buffer_of : Ring → TraceBuffer

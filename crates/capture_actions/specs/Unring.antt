@@ -1,10 +1,11 @@
 -- The action `unring`: what it means, and what it stands for.
-use Rattle.std.specs.Prelude.{ℕ, List, [], length, false, ◌==◌, if◌then◌else◌}
+use Rattle.std.specs.Prelude.{ℕ, List, [], length, ◌==◌, if◌then◌else◌}
 use Rattle.buffer_ring.specs.Buffer as buffers
 use Rattle.buffer_ring.specs.Buffer.{memory_of, size_of, pushed_by}
 use Rattle.buffer_ring.specs.Image.{ordered}
 use Rattle.capture_actions.specs.Names.{Meaning, Debt, owing}
 use Rattle.trace_stream.specs.Owed.{last_of}
+use Rattle.capture_actions.specs.Ring.{at_end}
 use Rattle.capture_actions.specs.declared.unring.Unring.{Unring}
 use Rattle.capture_actions.specs.declared.unring_plan.UnringPlan.{UnringPlan}
 
@@ -12,9 +13,9 @@ use Rattle.capture_actions.specs.declared.unring_plan.UnringPlan.{UnringPlan}
 abbrev pub in_order : UnringPlan → List ℕ → List ℕ
 in_order plan bytes = if length bytes == plan.size then ordered bytes plan.pointer plan.full else []
 
--- no bytes have a fault, nothing is written for any, and at their end they come in order if they are an image
+-- at the end the bytes come in order if they are an image
 abbrev pub unring_meaning : UnringPlan → Meaning
-unring_meaning plan = record { faulty = λ bytes. ⊥; text = λ bytes. []; ending = in_order plan; due = false }
+unring_meaning plan = at_end (in_order plan)
 
 -- its buffer was pushed these bytes
 abbrev pub Stands : Unring → List ℕ → Type 0

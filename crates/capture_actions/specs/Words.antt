@@ -2,16 +2,17 @@
 use Rattle.std.specs.Prelude.{◌≡◌, ℕ, List, [], ◌∷◌, ◌++◌, codes, Option, None, Some}
 use Rattle.dwt_packets.specs.Table.{name}
 use Rattle.dwt_packets.specs.declared.item.DwtItem.{DwtItem}
-use Rattle.dwt_packets.specs.declared.item.DwtItem.TheVariants.{Counters as OfCounters, Exception as OfException, Sample}
-use Rattle.dwt_packets.specs.declared.item.DwtItem.TheVariants.{Asleep as OfAsleep, MatchPc, MatchAddress, Read, Written}
-use Rattle.dwt_packets.specs.declared.item.DwtItem.TheVariants.{Other}
+use Rattle.dwt_packets.specs.declared.item.DwtItem.TheVariants.{Counters as OfCounters, Exception as OfException}
+use Rattle.dwt_packets.specs.declared.item.DwtItem.TheVariants.{Asleep as OfAsleep, MatchPc, MatchAddress, Read}
+use Rattle.dwt_packets.specs.declared.item.DwtItem.TheVariants.{Sample, Written, Other}
 use Rattle.itm_grammar.specs.declared.packet.ItmPacket.TheVariants.{Sync as OfSync, Overflow as OfOverflow, Software}
 use Rattle.itm_grammar.specs.declared.packet.ItmPacket.TheVariants.{Hardware, Local as OfLocal, GlobalFirst}
 use Rattle.itm_grammar.specs.declared.packet.ItmPacket.TheVariants.{GlobalSecond, Extension}
 use Rattle.stp_grammar.specs.declared.item.StpItem.TheVariants.{Async as OfAsync, Version as OfVersion, MasterError}
 use Rattle.stp_grammar.specs.declared.item.StpItem.TheVariants.{GlobalError, Datum, Flag as OfFlag, Trigger as OfTrig}
 use Rattle.stp_grammar.specs.declared.item.StpItem.TheVariants.{Frequency, NullStamp}
-use Rattle.source_events.specs.declared.event.What.TheVariants.{Locked, Packet as Said, Raw as OfRaw, Trigger as OfTrigger}
+use Rattle.source_events.specs.declared.event.What.TheVariants.{Locked, Packet as Said, Raw as OfRaw}
+use Rattle.source_events.specs.declared.event.What.TheVariants.{Trigger as OfTrigger}
 use Rattle.source_events.specs.declared.packet.Packet.TheVariants.{Stp as StpOf}
 use Rattle.capture_actions.specs.Names.{ItmPacket, StpItem, What, Packet, Itm}
 use Rattle.capture_actions.specs.declared.item_word.ItemWord.{ItemWord}

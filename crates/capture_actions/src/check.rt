@@ -1,16 +1,16 @@
 //! `check`: how many synchronisations and frames a port has, how much each source sent, and how the capture ends.
 
 ghost use Rattle.source_events.specs.declared.tails.TheConstants.{GREATEST_COUNT};
-ghost use Rattle.std.specs.Prelude.{◌≡◌, ◌+◌, ◌*◌, ◌<◌, ◌≤◌, ◌++◌, [], ℕ, List, length, is_none, take, true};
-ghost use Rattle.capture_actions.specs.Names.{Placed, placed_from, is_sound, source_counts_of, is_live};
+ghost use Rattle.std.specs.Prelude.{◌≡◌, ◌+◌, ◌*◌, ◌≤◌, ◌++◌, [], ℕ, List, length, true};
+ghost use Rattle.capture_actions.specs.Names.{Placed, is_sound, source_counts_of};
 ghost use Rattle.source_merge.specs.Engine as engine;
-ghost use Rattle.source_merge.specs.declared.engine.TheConstants.{GREATEST_OFFSET};
 ghost use Rattle.capture_actions.specs.Summary.{source_text, sources_text};
 
+use crate::kind_counts::MANY;
 use crate::plan_table::sends_stp;
-use crate::stopping::keep_stop;
+use crate::reading::CaptureReading;
 use source_counts::Counts;
-use source_events::{Event, Packet, Plan, SourceKind, Stop};
+use source_events::{Event, Packet, Plan, SourceKind};
 use source_machine::Told;
 use source_merge::{Engine, Receiver};
 use trace_stream::{Action, OUTLET_ROOM, Outlet, Progress, TEXT_ROOM};
@@ -25,15 +25,10 @@ pub const SOURCE_ROOM: usize = 44;
 /// Bytes of room that a summary is given: more than any has.
 pub const SUMMARY_ROOM: usize = ID_COUNT * SOURCE_ROOM + TAILS_ROOM + 2 * TEXT_ROOM;
 
-/// Events that are only counted need no room: more than those of any piece.
-const MANY: usize = 1 << 40;
-
 /// The reading of a capture.
 #[derive(Drop)]
 pub struct Check {
-    engine: Engine,
-    stop: Option<Stop>,
-    ghost alive: { is_live engine ≡ is_none stop },
+    reading: CaptureReading,
 }
 
 /// Takes events. They are only counted, which the engine does.
@@ -78,29 +73,6 @@ impl Receiver for Ignored {
 
     #[inline(always)]
     fn give_trigger(&mut self, _to: &mut (), _at: u64, _source: SourceId, _byte: u8) {}
-}
-
-/// Takes whole frames from the front of the piece, the first byte of which is at this offset, where no source is
-/// mapped. Answers how many bytes they have.
-fn count_frames(reading: &mut Engine, at: u64, piece: &[u8]) -> usize
-    requires live { is_live reading.old ≡ true }
-    requires offsets { (engine.next_of reading.old ≤ at) × (at + length piece.now ≤ GREATEST_OFFSET + 1) }
-    ensures few { result ≤ length piece.now }
-    ensures none { result ≡ 0 → reading.new ≡ reading.old }
-    ensures same { engine.plan_of reading.new ≡ engine.plan_of reading.old }
-    ensures next { 0 < result → engine.next_of reading.new ≡ at + result }
-    ensures live { is_live reading.new ≡ true }
-    ensures list { (u : List Placed) → engine.Stands reading.old u →
-        engine.Stands reading.new (u ++ placed_from at (take result piece.now)) }
-{
-    let mut done = 0;
-    while done < piece.len() {
-        let Some(bytes) = reading.count_frame(at + done as u64, &piece[done..]) else {
-            return done;
-        };
-        done += bytes;
-    }
-    done
 }
 
 /// The line of what a source sent, if it sent a byte.
@@ -157,8 +129,7 @@ impl Check {
         ensures live { IsLive result }
     {
         Check {
-            engine: Engine::new(plan),
-            stop: None,
+            reading: CaptureReading::new(plan),
         }
     }
 
@@ -166,17 +137,17 @@ impl Check {
     fn put_counts(&self, outlet: &mut Outlet)
         requires room { length outlet.old + SUMMARY_ROOM ≤ OUTLET_ROOM }
         requires live { IsLive self.now }
-        ensures { (u : List Placed) → engine.Stands self.now.engine u →
+        ensures { (u : List Placed) → engine.Stands self.now.reading.engine u →
             outlet.new ≡ outlet.old ++ counts_text (plan_of self.now) u }
     {
-        let counts = self.engine.port_counts();
+        let counts = self.reading.engine.port_counts();
         outlet.put(&PortCountsLines {
             fulls: counts.fulls,
             halves: counts.halves,
             frames: counts.frames,
         });
-        put_sources(outlet, &self.engine);
-        print_tails(outlet, &self.engine.finish());
+        put_sources(outlet, &self.reading.engine);
+        print_tails(outlet, &self.reading.engine.finish());
     }
 
     /// Puts the summary of the bytes that were taken: the counts and the end lines, or the line of the fault alone.
@@ -184,9 +155,15 @@ impl Check {
         requires room { length outlet.old + SUMMARY_ROOM ≤ OUTLET_ROOM }
         ensures { (seen : List ℕ) → Stands self.now seen → outlet.new ≡ outlet.old ++ summary (plan_of self.now) seen }
     {
-        match &self.stop {
+        match self.reading.stop {
             None => self.put_counts(outlet),
-            Some(stop) => print_fault(outlet, stop, sends_stp(self.engine.plan(), stop.source)),
+            Some(stop) => {
+                print_fault(
+                    outlet,
+                    &stop,
+                    sends_stp(self.reading.engine.plan(), stop.source),
+                );
+            }
         }
     }
 }
@@ -221,20 +198,14 @@ impl Action for Check {
 
     /// A whole frame is counted at once where no source is mapped.
     fn feed(&mut self, piece: &[u8], _outlet: &mut Outlet, _notes: &mut Outlet) -> Progress {
-        let at = self.engine.next();
-        let bytes = count_frames(&mut self.engine, at, piece);
+        let bytes = self.reading.count_frames(piece);
         if bytes > 0 {
             return Progress {
                 bytes,
                 is_faulty: false,
             };
         }
-        let fed = self.engine.take(at, piece, &mut Ignored, &mut ());
-        let is_faulty = keep_stop(&mut self.stop, fed.flow);
-        Progress {
-            bytes: fed.bytes,
-            is_faulty,
-        }
+        self.reading.take(piece, &mut Ignored, &mut ())
     }
 
     fn finish(&mut self, outlet: &mut Outlet) {

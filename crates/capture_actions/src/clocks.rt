@@ -10,7 +10,7 @@ use trace_clock::{GlobalClock, LocalClock};
 use trace_text::Remark;
 
 /// The local and the global clock of one source.
-#[derive(Clone, Copy, Debug, Drop)]
+#[derive(Clone, Copy, Drop)]
 pub struct Clocks {
     local: LocalClock,
     global: GlobalClock,

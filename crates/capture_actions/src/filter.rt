@@ -87,8 +87,8 @@ impl Filter {
         }
     }
 
-    /// Whether a guess is listed: one that meets one of the choices, if there are any, while the window, if there is one,
-    /// is open. The window does not see it.
+    /// Whether a guess is listed: one that meets one of the choices, if there are any, while the window, if there is
+    /// one, is open. The window does not see it.
     pub fn lists_guess(&self, event: &Event<Packet>) -> bool
         ensures { (es : List (Event Packet)) → HasSeen self.now es →
             result ≡ (is_open (bounds_in self.now.window) es && meets self.now.only event.now) }

@@ -11,7 +11,7 @@ use stp_grammar::item::StpItem;
 
 /// The first word of an item's text. The order is that of the manual's tables: of an ITM's items, of a system trace's,
 /// and of those of other sources.
-#[derive(Clone, Copy, Debug, PartialEq, Eq, Drop)]
+#[derive(Clone, Copy, Drop)]
 pub enum ItemWord {
     Sync,
     Overflow,

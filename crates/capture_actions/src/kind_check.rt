@@ -1,35 +1,30 @@
 //! `check` with the kinds of items: what `check` writes, and how many items of each word each mapped source sent.
 
 ghost use Rattle.std.specs.Prelude.{◌≡◌, ◌+◌, ◌<◌, ◌≤◌, ◌++◌, [], ℕ, List, length, is_none, true, get_or, Some};
-ghost use Rattle.capture_actions.specs.Names.{Placed, is_sound, source_counts_of, port_counts_of, tails_of, is_live};
+ghost use Rattle.capture_actions.specs.Names.{Placed, is_sound, source_counts_of, port_counts_of, tails_of};
 ghost use Rattle.capture_actions.specs.Names.{ID_COUNT, port_counts_text};
 ghost use Rattle.source_merge.specs.Engine as engine;
 ghost use Rattle.capture_actions.specs.Kinds.{none};
 
 use crate::kind_counts::KindCounts;
-use crate::kind_lines::{KindLines, Part};
+use crate::kind_lines::{KindLines, NONE, Part};
 use crate::plan_table::sends_stp;
-use crate::stopping::keep_stop;
+use crate::reading::CaptureReading;
 use source_counts::Counts;
-use source_events::{Plan, Stop, Tails};
+use source_events::{Plan, Tails};
 use source_merge::Engine;
 use trace_stream::{ACTION_ROOM, Action, OUTLET_ROOM, Outlet, Progress, TEXT_ROOM};
 use trace_text::{PortCountsLines, print_fault, print_tails};
 use trace_values::{ID_COUNT, SourceId};
 
-/// A source of which nothing is counted.
-const NONE: Counts = Counts { bytes: 0, items: 0 };
-
 /// The reading of a capture, and the counts of its kinds. At the end it keeps what is to be put.
 #[derive(Drop)]
 pub struct KindCheck {
-    engine: Engine,
+    reading: CaptureReading,
     kinds: KindCounts,
-    stop: Option<Stop>,
     lines: KindLines,
     /// How the capture ended, where that was without a fault.
     tails: Option<Tails>,
-    ghost alive: { is_live engine ≡ is_none stop },
 }
 
 /// How much the source of this number sent.
@@ -71,9 +66,8 @@ impl KindCheck {
         ensures debt { debt_of result ≡ Paid }
     {
         KindCheck {
-            engine: Engine::new(plan),
+            reading: CaptureReading::new(plan),
             kinds: KindCounts::new(),
-            stop: None,
             lines: KindLines::new(),
             tails: None,
         }
@@ -82,11 +76,15 @@ impl KindCheck {
     /// Puts what comes after the lines of the sources: the fault's line, or the end lines.
     fn put_last(&self, outlet: &mut Outlet)
         requires room { length outlet.old + ACTION_ROOM ≤ OUTLET_ROOM }
-        ensures { outlet.new ≡ outlet.old ++ last_by (plan_of self.now) self.now.stop self.now.tails }
+        ensures { outlet.new ≡ outlet.old ++ last_by (plan_of self.now) self.now.reading.stop self.now.tails }
     {
-        match (&self.stop, &self.tails) {
+        match (self.reading.stop, &self.tails) {
             (Some(stop), _) => {
-                print_fault(outlet, stop, sends_stp(self.engine.plan(), stop.source));
+                print_fault(
+                    outlet,
+                    &stop,
+                    sends_stp(self.reading.engine.plan(), stop.source),
+                );
             }
             (None, Some(tails)) => print_tails(outlet, tails),
             (None, None) => {}
@@ -95,11 +93,11 @@ impl KindCheck {
 
     /// How the capture ends here, where it has no fault.
     fn tails_here(&self) -> Option<Tails>
-        ensures { (u : List Placed) → engine.Stands self.now.engine u → is_none self.now.stop ≡ true →
+        ensures { (u : List Placed) → engine.Stands self.now.reading.engine u → is_none self.now.reading.stop ≡ true →
             result ≡ Some (tails_of (plan_of self.now) u) }
     {
-        match &self.stop {
-            None => Some(self.engine.finish()),
+        match self.reading.stop {
+            None => Some(self.reading.engine.finish()),
             Some(_) => None,
         }
     }
@@ -107,11 +105,11 @@ impl KindCheck {
     /// Puts the counts of the port.
     fn put_port(&self, outlet: &mut Outlet)
         requires room { length outlet.old + TEXT_ROOM ≤ OUTLET_ROOM }
-        ensures { (u : List Placed) → engine.Stands self.now.engine u →
+        ensures { (u : List Placed) → engine.Stands self.now.reading.engine u →
             let port = port_counts_of (plan_of self.now) u in
             outlet.new ≡ outlet.old ++ port_counts_text port.fulls port.halves port.frames }
     {
-        let counts = self.engine.port_counts();
+        let counts = self.reading.engine.port_counts();
         outlet.put(&PortCountsLines {
             fulls: counts.fulls,
             halves: counts.halves,
@@ -144,7 +142,10 @@ impl Action for KindCheck {
 
     /// Puts the lines of a source, or what comes after all of them.
     fn pour(&mut self, outlet: &mut Outlet) -> bool {
-        match self.lines.pour(self.engine.plan(), &self.kinds, outlet) {
+        match self
+            .lines
+            .pour(self.reading.engine.plan(), &self.kinds, outlet)
+        {
             Part::Nothing => false,
             Part::Source => true,
             Part::Last => {
@@ -156,20 +157,14 @@ impl Action for KindCheck {
 
     /// Takes a whole frame, or bytes up to a synchronisation or a fault, or packets, and counts them.
     fn feed(&mut self, piece: &[u8], _outlet: &mut Outlet, _notes: &mut Outlet) -> Progress {
-        let at = self.engine.next();
-        let fed = self.engine.take(at, piece, &mut self.kinds, &mut ());
-        let is_faulty = keep_stop(&mut self.stop, fed.flow);
-        Progress {
-            bytes: fed.bytes,
-            is_faulty,
-        }
+        self.reading.take(piece, &mut self.kinds, &mut ())
     }
 
     /// Puts the counts of the port, and owes the rest.
     fn finish(&mut self, outlet: &mut Outlet) {
         self.put_port(outlet);
         self.tails = self.tails_here();
-        let counts = all_counts(&self.engine);
+        let counts = all_counts(&self.reading.engine);
         self.lines = KindLines::of(counts);
     }
 

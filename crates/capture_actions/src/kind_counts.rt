@@ -15,10 +15,10 @@ use trace_values::{ID_COUNT, SourceId};
 const NUMBERS: usize = ID_COUNT * WORD_COUNT;
 
 /// Events that are only counted need no room: more than those of any piece.
-const MANY: usize = 1 << 40;
+pub(crate) const MANY: usize = 1 << 40;
 
 /// How many items of each word each source sent, up to 2^64 - 1.
-#[derive(Debug, Drop)]
+#[derive(Drop)]
 pub struct KindCounts {
     numbers: [u64; NUMBERS],
 }

@@ -28,7 +28,7 @@ const KINDS_ROOM: usize = WORD_COUNT * KIND_ROOM;
 const PARTS: u8 = ID_COUNT as u8 + 1;
 
 /// A source of which nothing is counted.
-const NONE: Counts = Counts { bytes: 0, items: 0 };
+pub(crate) const NONE: Counts = Counts { bytes: 0, items: 0 };
 
 /// Puts a number.
 fn put_number(outlet: &mut Outlet, number: u64)
@@ -81,7 +81,7 @@ fn put_kinds(outlet: &mut Outlet, id: SourceId, plan: &Plan, kinds: &KindCounts)
 }
 
 /// What a call has put of the lines.
-#[derive(Clone, Copy, Debug, PartialEq, Eq, Drop)]
+#[derive(Clone, Copy, Drop)]
 pub enum Part {
     /// Nothing: all is put.
     Nothing,

@@ -193,7 +193,7 @@ impl Lister {
         print_misread(outlet, stop, sends_stp(self.plan.plan(), stop.source));
     }
 
-    /// Takes the next event, which is one that comes seldom.
+    /// Takes the next event, which is one that comes seldom: a notice, or a byte of the trigger source within a window.
     #[inline(never)]
     fn put_seldom(&mut self, outlet: &mut Outlet, event: Event<Packet>)
         requires fits { EventFits PacketFits event }
@@ -201,18 +201,6 @@ impl Lister {
         ensures gets { gets (self.old, outlet.old) (event ∷ []) (self.new, outlet.new) }
         ensures bound { length outlet.new ≤ length outlet.old + EVENT_ROOM }
     {
-        self.put_next(outlet, &event);
-    }
-
-    /// Takes the byte of the trigger source at this offset by its event, which is made here, and puts its line if it is
-    /// listed.
-    #[inline(never)]
-    fn give_trigger_event(&mut self, outlet: &mut Outlet, at: u64, source: SourceId, byte: u8)
-        requires room { length outlet.old + TEXT_ROOM ≤ OUTLET_ROOM }
-        ensures gets { gets (self.old, outlet.old) (trigger_event source at byte ∷ []) (self.new, outlet.new) }
-        ensures bound { length outlet.new ≤ length outlet.old + EVENT_ROOM }
-    {
-        let event = trigger_of(at, source, byte);
         self.put_next(outlet, &event);
     }
 
@@ -265,7 +253,8 @@ impl Lister {
         requires proper { IsProper packet }
         requires own { ListsItm self.old source }
         requires room { length outlet.old + TEXT_ROOM ≤ OUTLET_ROOM }
-        ensures gets { gets (self.old, outlet.old) (packet_event source at half (Itm packet) ∷ []) (self.new, outlet.new) }
+        ensures gets { gets (self.old, outlet.old) (packet_event source at half (Itm packet) ∷ [])
+            (self.new, outlet.new) }
         ensures bound { length outlet.new ≤ length outlet.old + EVENT_ROOM }
     {
         if self.filter.wants(source, &Content::Itm(packet)) {
@@ -282,8 +271,8 @@ impl Lister {
         }
     }
 
-    /// Takes the next item of this source, which is that of what a packet says, and puts its line, if it is listed, from
-    /// its parts. It is kept out of line: in line, `give_told` would be too large to go into the loop over ITM packets.
+    /// Takes the next item of this source, which is that of what a packet says, and puts its line, if it is listed,
+    /// from its parts. It is kept out of line: in line, `give_told` would be too large to go into the loop over ITM packets.
     #[inline(never)]
     fn put_said(&mut self, outlet: &mut Outlet, at: u64, half: u8, source: SourceId, said: Said)
         requires proper { IsProperSaid said }
@@ -356,7 +345,7 @@ impl Lister {
         if self.lists_itm(source) {
             self.put_own_trigger(outlet, at, source, byte);
         } else {
-            self.give_trigger_event(outlet, at, source, byte);
+            self.put_seldom(outlet, trigger_of(at, source, byte));
         }
     }
 }

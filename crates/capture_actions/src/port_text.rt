@@ -1,22 +1,19 @@
 //! `text`: the values that software wrote to one stimulus port of an ITM source.
 
-ghost use Rattle.std.specs.Prelude.{◌≡◌, ℕ, List, [], is_none, option_map, true};
-ghost use Rattle.capture_actions.specs.Names.{placed, is_sound, stop_of, fault_of, is_live};
+ghost use Rattle.std.specs.Prelude.{◌≡◌, ℕ, List, [], option_map, true};
+ghost use Rattle.capture_actions.specs.Names.{placed, is_sound, stop_of, fault_of};
 
 use crate::port_text_plan::PortTextPlan;
 use crate::port_values::PortValues;
-use crate::stopping::keep_stop;
+use crate::reading::CaptureReading;
 use source_events::Stop;
-use source_merge::Engine;
 use trace_stream::{Action, Outlet, Progress};
 
 /// The reading of a capture, and whose values are written.
 #[derive(Drop)]
 pub struct PortText {
-    engine: Engine,
+    reading: CaptureReading,
     values: PortValues,
-    stop: Option<Stop>,
-    ghost alive: { is_live engine ≡ is_none stop },
 }
 
 impl PortText {
@@ -35,9 +32,8 @@ impl PortText {
             port: plan.port,
         };
         PortText {
-            engine: Engine::new(plan.plan),
+            reading: CaptureReading::new(plan.plan),
             values,
-            stop: None,
         }
     }
 
@@ -46,7 +42,7 @@ impl PortText {
         ensures { (seen : List ℕ) → Stands self.now seen →
             option_map stop_of result ≡ fault_of (plan_of self.now).plan (placed seen) }
     {
-        self.stop
+        self.reading.stop
     }
 }
 
@@ -80,13 +76,7 @@ impl Action for PortText {
 
     /// Takes a whole frame, or bytes up to a synchronisation or a fault, or packets, and puts the values among them.
     fn feed(&mut self, piece: &[u8], outlet: &mut Outlet, _notes: &mut Outlet) -> Progress {
-        let at = self.engine.next();
-        let fed = self.engine.take(at, piece, &mut self.values, outlet);
-        let is_faulty = keep_stop(&mut self.stop, fed.flow);
-        Progress {
-            bytes: fed.bytes,
-            is_faulty,
-        }
+        self.reading.take(piece, &mut self.values, outlet)
     }
 
     fn finish(&mut self, _outlet: &mut Outlet) {}

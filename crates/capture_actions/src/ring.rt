@@ -20,8 +20,8 @@ impl Ring {
     ghost use Rattle.capture_actions.specs.Ring.{Stands, plan_of, buffer_of, taken_by, debt_of};
     ghost use Rattle.capture_actions.specs.Names.{Paid};
 
-    /// Over a buffer of this many bytes, 16 to 2^24, that took nothing yet. It takes all its memory here, and fails only
-    /// for want of it.
+    /// Over a buffer of this many bytes, 16 to 2^24, that took nothing yet. It takes all its memory here, and fails
+    /// only for want of it.
     pub fn open(alloc: Global, size: usize) -> Result<Ring, AllocError>
         requires least { 16 ≤ size }
         requires most { size ≤ 2 ^ 24 }
@@ -42,7 +42,8 @@ impl Ring {
 
 impl Action for Ring {
     ghost use Rattle.capture_actions.specs.Ring.{Stands, plan_of, taken_by, IsLive, debt_of, ring_meaning};
-    ghost use Rattle.capture_actions.specs.RingLaws.{ring_lawful};
+    ghost use Rattle.capture_actions.specs.RingLaws.{at_end_lawful};
+    ghost use Rattle.buffer_ring.specs.Image.{image};
 
     // the size
     type Plan = usize;
@@ -59,7 +60,7 @@ impl Action for Ring {
 
     ghost meaning = { ring_meaning };
 
-    ghost lawful = { ring_lawful };
+    ghost lawful = { λ size. at_end_lawful (image size) };
 
     fn pour(&mut self, outlet: &mut Outlet) -> bool {
         let was_owed = self.owed > 0;

@@ -1,14 +1,12 @@
 //! `show`: the listing of the events of a capture.
 
-ghost use Rattle.std.specs.Prelude.{◌≡◌, ◌+◌, ◌<◌, ◌≤◌, [], List, length, is_none, true, false};
-ghost use Rattle.capture_actions.specs.Names.{ACTION_ROOM, is_sound, is_live, OUTLET_ROOM};
+ghost use Rattle.std.specs.Prelude.{◌≡◌, ◌+◌, ◌<◌, ◌≤◌, [], List, length, true, false};
+ghost use Rattle.capture_actions.specs.Names.{ACTION_ROOM, is_sound, OUTLET_ROOM};
 
 use crate::list_plan::ListPlan;
 use crate::lister::Lister;
 use crate::plan_table::sends_stp;
-use crate::stopping::keep_stop;
-use source_events::Stop;
-use source_merge::Engine;
+use crate::reading::CaptureReading;
 use trace_stream::{ACTION_ROOM, Action, OUTLET_ROOM, Outlet, Progress};
 use trace_text::{print_fault, print_tails};
 
@@ -18,10 +16,8 @@ const TURNS: usize = 16;
 /// The reading of a capture, and what its listing needs of it.
 #[derive(Drop)]
 pub struct Show {
-    engine: Engine,
+    reading: CaptureReading,
     lister: Lister,
-    stop: Option<Stop>,
-    ghost alive: { is_live engine ≡ is_none stop },
 }
 
 /// There is no fault, the piece has more bytes, and there is room for the lines of another frame.
@@ -52,12 +48,11 @@ impl Show {
         let only = plan.only;
         Show {
             lister: Lister::new(&plan.plan, only, plan.window),
-            engine: Engine::new(plan.plan),
-            stop: None,
+            reading: CaptureReading::new(plan.plan),
         }
     }
 
-    /// Takes a whole frame, or bytes up to a synchronisation or a fault, or packets, and puts the lines of their events.
+    /// Takes a whole frame, or bytes up to a synchronisation or a fault, or packets, and puts their events' lines.
     #[inline(always)]
     fn take(&mut self, piece: &[u8], outlet: &mut Outlet) -> Progress
         requires live { IsLive self.old }
@@ -67,13 +62,7 @@ impl Show {
         ensures front { TakesSome piece.now result.bytes }
         ensures fed { HasFed self.old self.new (take result.bytes piece.now) result.is_faulty outlet.old outlet.new }
     {
-        let at = self.engine.next();
-        let fed = self.engine.take(at, piece, &mut self.lister, outlet);
-        let is_faulty = keep_stop(&mut self.stop, fed.flow);
-        Progress {
-            bytes: fed.bytes,
-            is_faulty,
-        }
+        self.reading.take(piece, &mut self.lister, outlet)
     }
 }
 
@@ -124,9 +113,15 @@ impl Action for Show {
     }
 
     fn finish(&mut self, outlet: &mut Outlet) {
-        match &self.stop {
-            None => print_tails(outlet, &self.engine.finish()),
-            Some(stop) => print_fault(outlet, stop, sends_stp(self.engine.plan(), stop.source)),
+        match self.reading.stop {
+            None => print_tails(outlet, &self.reading.engine.finish()),
+            Some(stop) => {
+                print_fault(
+                    outlet,
+                    &stop,
+                    sends_stp(self.reading.engine.plan(), stop.source),
+                );
+            }
         }
     }
 

@@ -14,7 +14,7 @@ use trace_text::Remark;
 use trace_values::{ID_COUNT, SourceId};
 
 /// The clocks of each source, by its ID.
-#[derive(Debug, Drop)]
+#[derive(Drop)]
 pub struct SourceClocks {
     clocks: [Clocks; ID_COUNT],
 }

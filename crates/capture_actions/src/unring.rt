@@ -28,8 +28,8 @@ impl Unring {
     ghost use Rattle.capture_actions.specs.Unring.{Stands, plan_of, taken_by, debt_of, ordered_of};
     ghost use Rattle.capture_actions.specs.Names.{Paid};
 
-    /// Over a buffer that took nothing yet, for an image of 16 to 2^24 bytes with this pointer, which is full or not. It
-    /// takes all its memory here, and fails only for want of it.
+    /// Over a buffer that took nothing yet, for an image of 16 to 2^24 bytes with this pointer, which is full or not.
+    /// It takes all its memory here, and fails only for want of it.
     pub fn open(
         alloc: Global,
         size: usize,
@@ -80,8 +80,9 @@ impl Unring {
 
 impl Action for Unring {
     ghost use Rattle.buffer_ring.specs.Image.{ordered};
-    ghost use Rattle.capture_actions.specs.Unring.{Stands, plan_of, taken_by, IsLive, debt_of, unring_meaning};
-    ghost use Rattle.capture_actions.specs.RingLaws.{unring_lawful};
+    ghost use Rattle.capture_actions.specs.Unring.{Stands, plan_of, taken_by, IsLive, debt_of, in_order};
+    ghost use Rattle.capture_actions.specs.Unring.{unring_meaning};
+    ghost use Rattle.capture_actions.specs.RingLaws.{at_end_lawful};
 
     type Plan = UnringPlan;
 
@@ -97,7 +98,7 @@ impl Action for Unring {
 
     ghost meaning = { unring_meaning };
 
-    ghost lawful = { unring_lawful };
+    ghost lawful = { λ plan. at_end_lawful (in_order plan) };
 
     fn pour(&mut self, outlet: &mut Outlet) -> bool {
         let was_owed = self.owed > 0;

@@ -1,11 +1,9 @@
-use Rattle.std.proofs.Common.{ℕ, Bool, true, false, List, ◌≡◌, ◌++◌, [], ◌∙◌, ap, sym, subst, cond, append-nil}
+use Rattle.std.proofs.Common.{Bool, ◌++◌, [], ◌∙◌, ap, sym, cond, append-nil}
 use Rattle.trace_text.specs.LineText.{doubted}
 use Rattle.capture_actions.specs.Names.{Plan, Remark, event_line}
 use Rattle.capture_actions.specs.Faulty.{is_stp}
 use Rattle.capture_actions.specs.Filter.{plan_by}
-use Rattle.capture_actions.specs.Guesses.{is_open}
-use Rattle.capture_actions.specs.Listing.{itm_packets, meets, remark_of}
-use Rattle.capture_actions.proofs.Printing.{printable}
+use Rattle.capture_actions.specs.Listing.{itm_packets, remark_of}
 use Rattle.capture_actions.proofs.lister.Lister.put_guess.Goals as goal
 
 pub returns-then-lists_guess-clause-line : goal.returns-then-lists_guess-clause-line

@@ -1,6 +1,5 @@
 use Rattle.std.proofs.Common.{◌∙◌, ◌++◌, Bool, true, false, refl, sym, ap, append-nil}
 use Rattle.capture_actions.specs.Names.{Itm, packet_event, event_line}
-use Rattle.source_events.specs.declared.event.What.TheVariants.{Packet as Said}
 use Rattle.capture_actions.specs.Listing.{itm_packets, remark_of}
 use Rattle.capture_actions.proofs.Wanted.{put_from_parts}
 use Rattle.capture_actions.proofs.lister.Lister.put_own_itm.Goals as goal

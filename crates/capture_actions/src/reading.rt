@@ -1,0 +1,99 @@
+//! The reading of a capture with all its sources, up to its fault.
+
+ghost use Rattle.std.specs.Prelude.{◌≡◌, ◌+◌, ◌<◌, ◌≤◌, ◌++◌, [], ℕ, List, length, is_none, take, true, false};
+ghost use Rattle.capture_actions.specs.Names.{Placed, placed_from, is_sound, is_live, GREATEST_CAPTURE};
+ghost use Rattle.source_merge.specs.Engine as engine;
+ghost use Rattle.source_merge.specs.declared.engine.TheConstants.{GREATEST_OFFSET};
+
+use crate::stopping::keep_stop;
+use source_events::{Plan, Stop};
+use source_merge::{Engine, Receiver};
+use trace_stream::Progress;
+
+/// Reads the bytes of a capture, the first of which is at offset 0, and keeps the fault of its report.
+#[derive(Drop)]
+pub struct CaptureReading {
+    pub(crate) engine: Engine,
+    pub(crate) stop: Option<Stop>,
+    ghost alive: { is_live engine ≡ is_none stop },
+}
+
+/// Takes whole frames from the front of the piece, which comes next, where no source is mapped. Answers how many bytes
+/// they have.
+fn count_frames(reading: &mut Engine, piece: &[u8]) -> usize
+    requires live { is_live reading.old ≡ true }
+    requires count { engine.next_of reading.old + length piece.now ≤ GREATEST_OFFSET + 1 }
+    ensures few { result ≤ length piece.now }
+    ensures same { engine.plan_of reading.new ≡ engine.plan_of reading.old }
+    ensures next { engine.next_of reading.new ≡ engine.next_of reading.old + result }
+    ensures live { is_live reading.new ≡ true }
+    ensures list { (u : List Placed) → engine.Stands reading.old u →
+        engine.Stands reading.new (u ++ placed_from (engine.next_of reading.old) (take result piece.now)) }
+{
+    let mut done = 0;
+    while done < piece.len() {
+        let at = reading.next();
+        let Some(bytes) = reading.count_frame(at, &piece[done..]) else {
+            return done;
+        };
+        done += bytes;
+    }
+    done
+}
+
+impl CaptureReading {
+    ghost use Rattle.trace_io.specs.Bytes.{TakesSome};
+    ghost use Rattle.source_merge.specs.Giving.{GivesTo};
+    ghost use Rattle.capture_actions.specs.CaptureReading.{Stands, plan_of, taken_by, IsLive, ReadsOn};
+
+    /// Nothing is read yet. The plan is sound.
+    pub fn new(plan: Plan) -> CaptureReading
+        requires sound { is_sound plan ≡ true }
+        ensures plan { plan_of result ≡ plan }
+        ensures stands { Stands result [] }
+        ensures count { taken_by result ≡ 0 }
+        ensures live { IsLive result }
+    {
+        CaptureReading {
+            engine: Engine::new(plan),
+            stop: None,
+        }
+    }
+
+    /// Takes a whole frame, or bytes up to a synchronisation or a fault, or packets, and gives their events to what
+    /// takes them, which has room for 30.
+    #[inline(always)]
+    pub fn take<V: Receiver>(&mut self, piece: &[u8], out: &mut V, to: &mut V::To) -> Progress
+        requires live { IsLive self.old }
+        requires space { 30 ≤ V.room (out.old, to.old) }
+        requires some { 0 < length piece.now }
+        requires count { taken_by self.old + length piece.now ≤ GREATEST_CAPTURE }
+        ensures same { plan_of self.new ≡ plan_of self.old }
+        ensures front { TakesSome piece.now result.bytes }
+        ensures count { taken_by self.new ≡ taken_by self.old + result.bytes }
+        ensures reads { GivesTo V.gets (out.old, to.old) (out.new, to.new)
+            (ReadsOn self.old self.new (take result.bytes piece.now) result.is_faulty) }
+        ensures live { result.is_faulty ≡ false → IsLive self.new }
+    {
+        let at = self.engine.next();
+        let fed = self.engine.take(at, piece, out, to);
+        let is_faulty = keep_stop(&mut self.stop, fed.flow);
+        Progress {
+            bytes: fed.bytes,
+            is_faulty,
+        }
+    }
+
+    /// Where no source is mapped: takes whole frames from the front of the piece, and answers how many bytes they have.
+    pub fn count_frames(&mut self, piece: &[u8]) -> usize
+        requires live { IsLive self.old }
+        requires count { taken_by self.old + length piece.now ≤ GREATEST_CAPTURE }
+        ensures few { result ≤ length piece.now }
+        ensures same { plan_of self.new ≡ plan_of self.old }
+        ensures count { taken_by self.new ≡ taken_by self.old + result }
+        ensures read { (seen : List ℕ) → Stands self.old seen → Stands self.new (seen ++ take result piece.now) }
+        ensures live { IsLive self.new }
+    {
+        count_frames(&mut self.engine, piece)
+    }
+}
