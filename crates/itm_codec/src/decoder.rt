@@ -26,7 +26,7 @@ const SYNC: Pattern = Pattern {
 pub const AHEAD: usize = 8;
 
 /// A packet that ends in bytes that are there.
-#[derive(Clone, Copy, Debug, PartialEq, Eq, Drop)]
+#[derive(Clone, Copy, Drop)]
 pub struct ItmEnd {
     /// The last of how many of them ends it.
     pub bytes: usize,

@@ -22,16 +22,11 @@ either n true x y p q = p
 either n false x y p q = q
 
 begun : (c : Class) → CountsOn 0 (begin c)
-begun Zero = refl
 begun Overflowed = tt
-begun (Source hardware number size) = refl
 begun (LocalShort delta) = tt
-begun (LocalLong lateness) = refl
-begun First = refl
-begun Second = refl
-begun (Extended true dwt low) = refl
 begun (Extended false dwt low) = tt
 begun Reserved = tt
+begun x = refl
 
 ends_none : (n : ℕ) (x : Next Partial ItmPacket) → ((t : Partial) → x ≡ Go t → ⊥) → CountsOn n x
 ends_none n (Go t) h = absurd (h t refl)

@@ -391,13 +391,11 @@ began Overflowed t e = cc
 began (Source hardware number size) t e =
     let c = Source hardware number size in
     let k : t ≡ Payload c 0 0 = cc in subst (Belongs c 0) (sym k) (refl, refl, some_count size)
-began (LocalShort delta) t e = cc
 began (LocalLong lateness) t e = let c = LocalLong lateness in let k : t ≡ Payload c 0 0 = cc in subst (Belongs c 0) (sym k) (refl, refl, omega arith)
 began First t e = let k : t ≡ Payload First 0 0 = cc in subst (Belongs First 0) (sym k) (refl, refl, omega arith)
 began Second t e = let k : t ≡ Payload Second 0 0 = cc in subst (Belongs Second 0) (sym k) (refl, refl, omega arith)
 began (Extended true dwt low) t e = let c = Extended true dwt low in let k : t ≡ Payload c 0 0 = cc in subst (Belongs c 0) (sym k) (refl, refl, omega arith)
-began (Extended false dwt low) t e = cc
-began Reserved t e = cc
+began x t e = cc
 
 longer_under : (most n b : ℕ) → longer most n b ≡ true → n + 1 < most
 longer_under most n b e = grind (arith, nat_tests)
@@ -530,16 +528,9 @@ finish s (h ∷ p) e = ending s (class_of h) (length p) (behind_header h p s e)
 
 -- each fault has its reason
 begin_fails : (c : Class) (e : Reason) → begin c ≡ Fail e → e ≡ reason_of c 0
-begin_fails Zero e h = cc
-begin_fails Overflowed e h = cc
-begin_fails (Source hardware number size) e h = cc
-begin_fails (LocalShort delta) e h = cc
-begin_fails (LocalLong lateness) e h = cc
-begin_fails First e h = cc
-begin_fails Second e h = cc
 begin_fails (Extended true dwt low) e h = cc
 begin_fails (Extended false dwt low) e h = cc
-begin_fails Reserved e h = cc
+begin_fails x e h = cc
 
 zeros_fail : (n b : ℕ) (e : Reason) → zeros_with n b ≡ Fail e → e ≡ BadItmSync
 zeros_fail n b e h = elim (zeros_cases n b) [

@@ -56,15 +56,8 @@ all_right : all_under is_right 256 ≡ true
 all_right = refl
 
 reserved_is : (c : Class) → is_reserved c ≡ true → c ≡ Reserved
-reserved_is Zero e = cc
-reserved_is Overflowed e = cc
-reserved_is (Source hardware number size) e = cc
-reserved_is (LocalShort delta) e = cc
-reserved_is (LocalLong lateness) e = cc
-reserved_is First e = cc
-reserved_is Second e = cc
-reserved_is (Extended more dwt low) e = cc
 reserved_is Reserved e = refl
+reserved_is x e = cc
 
 read_right : (s t u : Bool) → (s || (t && u)) ≡ true → (s ≡ true) ⊎ ((t ≡ true) × (u ≡ true))
 read_right true t u e = inl refl

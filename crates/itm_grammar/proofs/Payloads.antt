@@ -49,15 +49,10 @@ second_ends n v t e = elim (chosen (n == 4) e) [
 ]
 
 pub last_ends : (c : Class) (n v b : ℕ) (t : Partial) → last c n v b ≡ Go t → ⊥
-last_ends Zero n v b t e = cc
-last_ends Overflowed n v b t e = cc
-last_ends (Source hardware k size) n v b t e = cc
-last_ends (LocalShort delta) n v b t e = cc
 last_ends (LocalLong lateness) n v b t e = elim (chosen (nat_lt b 128) e) [ inl m ↦ (let k = m.1 in cc) | inr m ↦ (let k = m.1 in cc) ]
 last_ends First n v b t e = elim (chosen (nat_lt b 128) e) [ inl m ↦ (let k = m.1 in cc) | inr m ↦ (let k = m.1 in cc) ]
 last_ends Second n v b t e = elim (chosen (nat_lt b 128) e) [ inl m ↦ second_ends n v t m.1 | inr m ↦ (let k = m.1 in cc) ]
-last_ends (Extended more dwt low) n v b t e = cc
-last_ends Reserved n v b t e = cc
+last_ends x n v b t e = cc
 
 ended_whole : (y : Next Partial ItmPacket) (k : Partial → Walked Partial ItmPacket) (p : List ℕ) (x : ItmPacket) → ((t : Partial) → y ≡ Go t → ⊥) → after y k p ≡ Whole x →
     (y ≡ End x) × (p ≡ [])

@@ -134,16 +134,14 @@ short_is Exact delta e = let k = below delta e in (refl, k.0, k.1) where
   below : (n : ℕ) → (nat_lt 0 n && nat_lt n 7) ≡ true → (0 < n) × (n < 7)
   below n e = grind (arith, nat_tests)
 short_is StampLate delta e = cc
-short_is PacketLate delta e = cc
-short_is BothLate delta e = cc
+short_is x delta e = cc
 
 not_short : (lateness : Lateness) (delta : ℕ) → is_short lateness delta ≡ false → lateness ≡ Exact → 0 < delta → delta < 7 → ⊥
 not_short Exact delta e h k l = within delta e k l where
   within : (n : ℕ) → (nat_lt 0 n && nat_lt n 7) ≡ false → 0 < n → n < 7 → ⊥
   within n e k l = grind (arith, nat_tests)
 not_short StampLate delta e h k l = cc
-not_short PacketLate delta e h k l = cc
-not_short BothLate delta e h k l = cc
+not_short x delta e h k l = cc
 
 some_byte : (p : List ℕ) → IsContinued p → 0 < length p
 some_byte [] h = absurd h
@@ -371,15 +369,9 @@ least_all (GlobalSecond wide value) h = second_least wide value h
 least_all (Extension dwt value) h = extension_by dwt value (nat_lt value 8) refl h
 
 is_clear : (p : ItmPacket) → IsProper p → IsClear p (short p)
-is_clear Sync h = tt
-is_clear Overflow h = tt
-is_clear (Software port size value) h = tt
-is_clear (Hardware disc size value) h = tt
-is_clear (Local lateness delta) h = tt
-is_clear (GlobalFirst len value change wrap) h = tt
 is_clear (GlobalSecond true value) h = (groups_of 6 value, refl, (groups_made 5 value (omega arith)).value_is)
 is_clear (GlobalSecond false value) h = (groups_of 4 value, refl, (groups_made 3 value (omega arith)).value_is)
-is_clear (Extension dwt value) h = tt
+is_clear x h = tt
 
 pub shortest : (p : ItmPacket) → IsProper p → HasShortest p
 shortest p h =

@@ -12,7 +12,7 @@ use crate::packet::{ItmPacket, Lateness, Size};
 use trace_values::{Next, Reason};
 
 /// What is kept of an unfinished packet.
-#[derive(Clone, Copy, Debug, PartialEq, Eq, Drop)]
+#[derive(Clone, Copy, Drop)]
 pub enum Partial {
     /// Nothing: the next byte is a header.
     Header,

@@ -82,8 +82,7 @@ module _ (order : Order) where
     where
       by : (z : Next Partial StpPacket) → (with_unit Start p b z None).rest ≡ rest_after z (p.rest ++ b ∷ [])
       by (Go t) = refl
-      by (End v) = refl
-      by (Fail f) = refl
+      by x = refl
 
   abbrev Told : Next Partial StpPacket → List Placed → List Placed → Type 0
   Told x r left = Says (InUnits (Spells order)) (λ z. why (units_of z)) x r × (left ≡ rest_after x r)

@@ -1,6 +1,6 @@
 -- A part of a packet, as many nibbles as there are.
 use Rattle.std.proofs.Common.{◌≡◌, ℕ, ◌+◌, ◌-◌, ◌*◌, ◌<◌, ◌≤◌, List, [], ◌∷◌, ◌++◌, length, get_or, refl, sym, ◌∙◌}
-use Rattle.std.proofs.Common.{ap, subst, arith, Bool, true, false, cond}
+use Rattle.std.proofs.Common.{ap, subst, arith, Bool, true, false}
 use Rattle.std.specs.Prelude.{◌==◌, nat_lt, nat_le}
 use Rattle.std.proofs.lemmas.Bool.Decides.{nat_tests}
 use Rattle.std.proofs.lemmas.List.{append-nil, take_all}
@@ -13,7 +13,7 @@ use Rattle.stp_grammar.proofs.Digits.{stage_whole, stage_within, value_from}
 use Rattle.stp_codec.specs.Wholes.{nibbles_in, between, number_from}
 use Rattle.stp_codec.specs.Cuts.{Leads, payload_from}
 use Rattle.stp_codec.proofs.Between.{length-nibbles, length-between, between_first, between_none, between_parts}
-use Rattle.stp_codec.proofs.Finishing.{value_is, ends_word, first_is, second_is, not_f}
+use Rattle.stp_codec.proofs.Finishing.{value_is, ends_word, first_is}
 
 -- the state after a payload's nibbles
 from_none : (row : Row) (n v : ℕ) → n < (line_of row).payload → payload_from row n v ≡ Go (Payload row n v)
@@ -39,13 +39,6 @@ run_ends order count h = let t : nat_le 21 count ≡ true = grind (arith, nat_te
 
 pub start_opens : (order : Order) (b : ℕ) → b < 15 → rule order Start b ≡ begin (row_at b)
 start_opens order b h = ap (λ z. opened z Second) (first_is order b h)
-
-choose : (t : Bool) (x : Next Partial StpPacket) {y z : Next Partial StpPacket} → t ≡ false → y ≡ z → cond t x y ≡ z
-choose true x e f = cc
-choose false x e f = f
-
-pub second_opens : (order : Order) (b : ℕ) → 0 < b → b < 15 → rule order Second b ≡ begin (row_at (14 + b))
-second_opens order b h l = choose (b == 15) (Go (Run 2)) (not_f order b l) (ap (λ z. opened z Third) (second_is order b h l))
 
 pub third_opens : (order : Order) (b number : ℕ) → third_opening b ≡ Opened (row_at number) → rule order Third b ≡ begin (row_at number)
 third_opens order b number e = ap (λ z. opened z Third) e

@@ -75,16 +75,15 @@ module _ (order : Order) where
   pub not_f : (b : ℕ) → b < 15 → (b == 15) ≡ false
   not_f b h = grind (arith, nat_tests)
 
-  pub ends_second : (b : ℕ) (w : List ℕ) (packet : StpPacket) → 0 < b → b < 15 → Ends order (begin (row_at (14 + b))) w packet → Ends order (Go Second) (b ∷ w) packet
-  ends_second b w packet h l k =
-      ap (λ x. after x (λ t. walk (rule order) t w) w) (goes b h l) ∙ k
-    where
-      choose : (t : Bool) (x : Next Partial StpPacket) {y z : Next Partial StpPacket} → t ≡ false → y ≡ z → cond t x y ≡ z
-      choose true x e f = cc
-      choose false x e f = f
+  choose : (t : Bool) (x : Next Partial StpPacket) {y z : Next Partial StpPacket} → t ≡ false → y ≡ z → cond t x y ≡ z
+  choose true x e f = cc
+  choose false x e f = f
 
-      goes : (b : ℕ) → 0 < b → b < 15 → rule order Second b ≡ begin (row_at (14 + b))
-      goes b h l = choose (b == 15) _ (not_f b l) (ap (λ (z : Opening). opened z Third) (second_is b h l))
+  pub second_opens : (b : ℕ) → 0 < b → b < 15 → rule order Second b ≡ begin (row_at (14 + b))
+  second_opens b h l = choose (b == 15) _ (not_f b l) (ap (λ (z : Opening). opened z Third) (second_is b h l))
+
+  pub ends_second : (b : ℕ) (w : List ℕ) (packet : StpPacket) → 0 < b → b < 15 → Ends order (begin (row_at (14 + b))) w packet → Ends order (Go Second) (b ∷ w) packet
+  ends_second b w packet h l k = ap (λ x. after x (λ t. walk (rule order) t w) w) (second_opens b h l) ∙ k
 
   third_is : (c : ℕ) → c < 2 → third_opening c ≡ Opened (row_at (29 + c))
   third_is c h = grind (arith, nat_tests)

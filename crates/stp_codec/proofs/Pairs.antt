@@ -2,7 +2,7 @@
 use Rattle.std.proofs.Common.{◌≡◌, ℕ, zero, suc, ◌/◌, ◌<◌, List, [], ◌∷◌, ◌++◌, refl, sym, ◌∙◌, ap, subst}
 use Rattle.std.proofs.Common.{append_assoc, append-nil, ◌⊎◌, inl, inr, Bool, true, false, None}
 use Rattle.trace_values.specs.declared.fault.Fault.{Fault}
-use Rattle.stp_codec.specs.Names.{Step, Quiet, Skipping, Item, Locked, Fault as Faulty, Placed, low_of, high_of, Grows}
+use Rattle.stp_codec.specs.Names.{Step, Quiet, Skipping, Fault as Faulty, Placed, low_of, high_of, Grows}
 use Rattle.stp_codec.specs.Names.{fault_by, goes_on, Order, StpItem}
 use Rattle.trace_values.proofs.Nibbling.{both, IsPair, grows_both}
 use Rattle.stp_codec.specs.declared.decoder.StpDecoder.{StpDecoder}
@@ -15,17 +15,11 @@ use Rattle.stp_codec.proofs.Taken.{same_order, to_stands}
 taken_high : (at byte : ℕ) (s : Step StpItem) → IsHalf 1 s →
     taken_by at byte s ≡ low_of at byte ∷ (high_of at byte ∷ [])
 taken_high at byte (Faulty f) e = ap (λ k. nibbles_to k at byte) e
-taken_high at byte Quiet e = refl
-taken_high at byte Skipping e = refl
-taken_high at byte (Item half v) e = refl
-taken_high at byte (Locked skipped half v) e = refl
+taken_high at byte x e = refl
 
 before_high : (at byte : ℕ) (s : Step StpItem) → IsHalf 1 s → before_by at byte s ≡ low_of at byte ∷ []
 before_high at byte (Faulty f) e = ap (λ k. nibbles_before k at byte) e
-before_high at byte Quiet e = refl
-before_high at byte Skipping e = refl
-before_high at byte (Item half v) e = refl
-before_high at byte (Locked skipped half v) e = refl
+before_high at byte x e = refl
 
 given_half : (s : Step StpItem) → IsGiven s → IsHalf 1 s
 given_half s (inl g) = subst (λ x. IsHalf 1 x) (sym g.2) tt
@@ -137,19 +131,13 @@ takes_same d q e n at byte s same t = record {
 pub no_fault : (order : Order) (n w : List Placed) (at : ℕ) (s : Step StpItem) →
     (items_at order true n).locked ≡ false → Grows (items_at order true n) (items_at order true w) at s →
     goes_on s ≡ true
-no_fault order n w at Quiet l g = refl
-no_fault order n w at Skipping l g = refl
-no_fault order n w at (Item half v) l g = refl
-no_fault order n w at (Locked skipped half v) l g = refl
 no_fault order n w at (Faulty f) l g = (let k : true ≡ false = sym g.hunt.1 ∙ l in cc)
+no_fault order n w at x l g = refl
 
 taken_all : (at byte : ℕ) (s : Step StpItem) → goes_on s ≡ true →
     taken_by at byte s ≡ low_of at byte ∷ (high_of at byte ∷ [])
-taken_all at byte Quiet e = refl
-taken_all at byte Skipping e = refl
-taken_all at byte (Item half v) e = refl
-taken_all at byte (Locked skipped half v) e = refl
 taken_all at byte (Faulty f) e = cc
+taken_all at byte x e = refl
 
 -- a new one that hunts, with a byte, and with a high nibble
 pub hunts_pair : (d e : StpDecoder) (at byte : ℕ) (s : Step StpItem) (half : ℕ) → half ≡ 0 → is_hunter d ≡ true →

@@ -38,8 +38,7 @@ module _ (order : Order) (m : Mode) (a : Attribution) (locked : is_locked m ≡ 
 
   whole_ends : (x : Next Partial StpPacket) → after {U = ℕ} x (λ t. Within t) [] ≡ Whole v → x ≡ End v
   whole_ends (Go t) e = cc
-  whole_ends (End w) e = cc
-  whole_ends (Fail f) e = cc
+  whole_ends x e = cc
 
   never_whole : (w : StpPacket) (r : List ℕ) (l : ℕ) (more : Partial → Walked Partial StpPacket) → after (End w) more (r ++ l ∷ []) ≡ Whole v → ⊥
   never_whole w [] l more e = cc

@@ -3,13 +3,14 @@ use Rattle.std.proofs.Common.{◌≡◌, ℕ, zero, suc, ◌+◌, ◌-◌, ◌*�
 use Rattle.std.proofs.Math.Nat.{pow-suc, mul-add, mul_assoc, mul_comm}
 use Rattle.std.specs.Prelude.{◌==◌}
 use Rattle.std.proofs.lemmas.Bool.Decides.{nat_tests}
-use Rattle.stp_grammar.specs.Names.{Next, Go, Walked, Within, Whole, after, walk}
+use Rattle.stp_grammar.specs.Names.{Next, Go, Walked, Within, Whole, after}
 use Rattle.stp_grammar.specs.declared.packet.Order.{Order}
 use Rattle.stp_grammar.specs.declared.packet.Order.TheVariants.{Msn, Lsn}
 use Rattle.stp_grammar.specs.declared.packet.StpPacket.{StpPacket}
 use Rattle.stp_grammar.specs.declared.partial.Partial.{Partial}
 use Rattle.stp_grammar.specs.Spelling.{number}
 use Rattle.stp_grammar.specs.Rule.{rule, number_with}
+use Rattle.stp_grammar.proofs.Walking.{from}
 
 -- the number with more nibbles, one by one
 abbrev pub value_from : Order → ℕ → ℕ → List ℕ → ℕ
@@ -62,9 +63,6 @@ within_whole s x e = cc
 -- A stage of this many nibbles, in which the state has a count and a number, and what comes after it.
 module _ (order : Order) (most : ℕ) (state : ℕ → ℕ → Partial) (then : ℕ → Next Partial StpPacket)
     (same : (n v b : ℕ) → rule order (state n v) b ≡ cond (n + 1 == most) (then (number_with order n v b)) (Go (state (n + 1) (number_with order n v b)))) where
-  abbrev from : Partial → List ℕ → Walked Partial StpPacket
-  from s r = walk (rule order) s r
-
   goes : (n v b : ℕ) → n + 1 < most → rule order (state n v) b ≡ Go (state (n + 1) (number_with order n v b))
   goes n v b h = same n v b ∙ (let t : (n + 1 == most) ≡ false = grind (arith, nat_tests) in rw t refl)
 
@@ -72,26 +70,26 @@ module _ (order : Order) (most : ℕ) (state : ℕ → ℕ → Partial) (then : 
   ends n v b h = same n v b ∙ (let t : (n + 1 == most) ≡ true = grind (arith, nat_tests) in rw t refl)
 
   -- all of its nibbles
-  pub stage_whole : (n v : ℕ) (d w : List ℕ) → n < most → n + length d ≡ most → from (state n v) (d ++ w) ≡ after (then (value_from order n v d)) (λ t. from t w) w
+  pub stage_whole : (n v : ℕ) (d w : List ℕ) → n < most → n + length d ≡ most → from order (state n v) (d ++ w) ≡ after (then (value_from order n v d)) (λ t. from order t w) w
   stage_whole n v [] w h e = absurd (omega arith)
-  stage_whole n v (b ∷ []) w h e = ap (λ (x : Next Partial StpPacket). after x (λ t. from t w) w) (ends n v b (omega arith))
+  stage_whole n v (b ∷ []) w h e = ap (λ (x : Next Partial StpPacket). after x (λ t. from order t w) w) (ends n v b (omega arith))
   stage_whole n v (b ∷ (c ∷ d)) w h e =
-      ap (λ (x : Next Partial StpPacket). after x (λ t. from t ((c ∷ d) ++ w)) ((c ∷ d) ++ w)) (goes n v b (omega arith))
+      ap (λ (x : Next Partial StpPacket). after x (λ t. from order t ((c ∷ d) ++ w)) ((c ∷ d) ++ w)) (goes n v b (omega arith))
       ∙ stage_whole (n + 1) (number_with order n v b) (c ∷ d) w (omega arith) (omega arith)
 
   -- fewer
-  pub stage_within : (n v : ℕ) (d : List ℕ) → n + length d < most → from (state n v) d ≡ Within (state (n + length d) (value_from order n v d))
+  pub stage_within : (n v : ℕ) (d : List ℕ) → n + length d < most → from order (state n v) d ≡ Within (state (n + length d) (value_from order n v d))
   stage_within n v [] h = ap (λ (k : ℕ). Within (state k v)) (let e : n ≡ n + 0 = omega arith in e)
   stage_within n v (b ∷ d) h =
-      ap (λ (x : Next Partial StpPacket). after x (λ t. from t d) d) (goes n v b (omega arith))
+      ap (λ (x : Next Partial StpPacket). after x (λ t. from order t d) d) (goes n v b (omega arith))
       ∙ stage_within (n + 1) (number_with order n v b) d (omega arith)
       ∙ ap (λ (k : ℕ). Within (state k (value_from order (n + 1) (number_with order n v b) d))) (let e : n + 1 + length d ≡ n + suc (length d) = omega arith in e)
 
-  pub stage_sound : (n v : ℕ) (r : List ℕ) (x : StpPacket) → n < most → from (state n v) r ≡ Whole x →
-      (d : List ℕ) × (w : List ℕ) × (n + length d ≡ most) × (r ≡ d ++ w) × (after (then (value_from order n v d)) (λ t. from t w) w ≡ Whole x)
+  pub stage_sound : (n v : ℕ) (r : List ℕ) (x : StpPacket) → n < most → from order (state n v) r ≡ Whole x →
+      (d : List ℕ) × (w : List ℕ) × (n + length d ≡ most) × (r ≡ d ++ w) × (after (then (value_from order n v d)) (λ t. from order t w) w ≡ Whole x)
   stage_sound n v r x h e = elim (parts (most - n) r) [
     | inl m ↦ absurd (within_whole (state (n + length r) (value_from order n v r)) x (sym (stage_within n v r (omega arith)) ∙ e))
     | inr m ↦
         let l : n + length m.0 ≡ most = (let k = m.2 in omega arith) in
-        (m.0, m.1, l, m.3, sym (stage_whole n v m.0 m.1 h l) ∙ ap (λ (z : List ℕ). from (state n v) z) (sym m.3) ∙ e)
+        (m.0, m.1, l, m.3, sym (stage_whole n v m.0 m.1 h l) ∙ ap (λ (z : List ℕ). from order (state n v) z) (sym m.3) ∙ e)
   ]

@@ -1,10 +1,9 @@
 -- Each fault has its reason.
 use Rattle.std.proofs.Common.{◌≡◌, ℕ, zero, suc, ◌+◌, ◌≤◌, List, [], ◌∷◌, ◌++◌, replicate, Bool, true, false, cond, refl, sym, ◌∙◌, ap, subst, inl, inr, arith}
 use Rattle.std.specs.Prelude.{nat_lt, ◌==◌, ◌&&◌}
-use Rattle.stp_grammar.specs.Names.{Reason, Unsupported, StampSize, BadAsync, Fail, Walked, Within, walk, nibble_count}
+use Rattle.stp_grammar.specs.Names.{Reason, Unsupported, StampSize, BadAsync, Fail, Within, nibble_count}
 use Rattle.stp_grammar.specs.declared.packet.Order.{Order}
 use Rattle.stp_grammar.specs.declared.packet.Row.{Row}
-use Rattle.stp_grammar.specs.declared.packet.StpPacket.{StpPacket}
 use Rattle.stp_grammar.specs.declared.partial.Partial.{Partial}
 use Rattle.stp_grammar.specs.declared.partial.Partial.TheVariants.{Start, Second, Third, Run, Payload, Size, Word}
 use Rattle.stp_grammar.specs.Opcodes.{line_of, Opening, Whole as Opened, More, Refused, opening_of}
@@ -14,11 +13,9 @@ use Rattle.stp_grammar.proofs.Openings.{row_why, first_fault, second_fault, thir
 use Rattle.stp_grammar.proofs.Choices.{chosen}
 use Rattle.stp_grammar.proofs.Runs.{run_cases}
 use Rattle.stp_grammar.proofs.Reached.{Belongs, pushed, belongs}
+use Rattle.stp_grammar.proofs.Walking.{from}
 
 module _ (order : Order) where
-  abbrev from : Partial → List ℕ → Walked Partial StpPacket
-  from s r = walk (rule order) s r
-
   -- each fault has its reason
   pub row_never_fails : (row : Row) (e : Reason) → begin row ≡ Fail e → ⊥
   row_never_fails row e h = elim (chosen ((line_of row).payload == 0) h) [
@@ -77,5 +74,5 @@ module _ (order : Order) where
   ]
   fails (Word row p size n v) r b e h f = elim (chosen (n + 1 == nibble_count size) f) [ inl m ↦ (let k = m.1 in cc) | inr m ↦ (let k = m.1 in cc) ]
 
-  pub reason : (s : Partial) (r : List ℕ) (b : ℕ) (e : Reason) → from Start r ≡ Within s → rule order s b ≡ Fail e → e ≡ why (r ++ b ∷ [])
+  pub reason : (s : Partial) (r : List ℕ) (b : ℕ) (e : Reason) → from order Start r ≡ Within s → rule order s b ≡ Fail e → e ≡ why (r ++ b ∷ [])
   reason s r b e w f = fails s r b e (belongs order s r w) f

@@ -2,7 +2,7 @@
 use Rattle.std.proofs.Common.{◌≡◌, ℕ, ◌-◌, List, [], ◌∷◌, ◌++◌, replicate, false, refl, ◌∙◌, inl, inr, arith}
 use Rattle.std.proofs.lemmas.List.{length-replicate}
 use Rattle.std.proofs.lemmas.Bool.{cases_Bool}
-use Rattle.stp_grammar.specs.Names.{Go, End, Walked, Within, Whole, after, walk, nibble_count}
+use Rattle.stp_grammar.specs.Names.{Go, End, Within, Whole, after, walk, nibble_count}
 use Rattle.stp_grammar.specs.declared.packet.Order.{Order}
 use Rattle.stp_grammar.specs.declared.packet.Order.TheVariants.{Msn, Lsn}
 use Rattle.stp_grammar.specs.declared.packet.Row.{Row}
@@ -14,21 +14,18 @@ use Rattle.stp_grammar.specs.declared.partial.Partial.TheVariants.{Start, Second
 use Rattle.stp_grammar.specs.Opcodes.{line_of}
 use Rattle.stp_grammar.specs.Rule.{rule, after_payload}
 use Rattle.stp_grammar.proofs.Digits.{value_from, stage_whole}
-use Rattle.stp_grammar.proofs.Walking.{says}
+use Rattle.stp_grammar.proofs.Walking.{from, says}
 use Rattle.stp_grammar.proofs.Runs.{run_complete}
 use Rattle.stp_grammar.proofs.StampWalks.{word_same}
 use Rattle.stp_grammar.proofs.Payloads.{payload_same}
 use Rattle.stp_grammar.proofs.Reached.{Belongs, belongs}
 
 module _ (order : Order) where
-  abbrev from : Partial → List ℕ → Walked Partial StpPacket
-  from s r = walk (rule order) s r
-
   -- each state can be finished
   abbrev pub CanEnd : Partial → Type 0
-  CanEnd s = (x : StpPacket) × (w : List ℕ) × (from s w ≡ Whole x)
+  CanEnd s = (x : StpPacket) × (w : List ℕ) × (from order s w ≡ Whole x)
 
-  pub paid_ends : (row : Row) (payload : ℕ) → (x : StpPacket) × (w : List ℕ) × (after (after_payload row payload) (λ t. from t w) w ≡ Whole x)
+  pub paid_ends : (row : Row) (payload : ℕ) → (x : StpPacket) × (w : List ℕ) × (after (after_payload row payload) (λ t. from order t w) w ≡ Whole x)
   paid_ends row payload = elim (cases_Bool (line_of row).stamped) [
     | inl m ↦ (Stamped row payload 0 0, 0 ∷ [], says order (after_payload row payload) (Go (Size row payload)) (0 ∷ []) (rw m refl))
     | inr m ↦ (Plain row payload, [], says order (after_payload row payload) (End (Plain row payload)) [] (rw m refl))
@@ -55,5 +52,5 @@ module _ (order : Order) where
             (let z = h.2 in omega (arith, length-replicate {A = ℕ} (nibble_count size - n) 0)),
       )
 
-  pub finish : (s : Partial) (r : List ℕ) → from Start r ≡ Within s → CanEnd s
+  pub finish : (s : Partial) (r : List ℕ) → from order Start r ≡ Within s → CanEnd s
   finish s r e = ending s r (belongs order s r e)

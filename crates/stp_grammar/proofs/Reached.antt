@@ -3,7 +3,7 @@ use Rattle.std.proofs.Common.{◌≡◌, ℕ, ◌+◌, ◌<◌, ◌≤◌, List,
 use Rattle.std.proofs.lemmas.List.{replicate_more}
 use Rattle.std.specs.Prelude.{◌==◌}
 use Rattle.std.proofs.lemmas.Bool.Decides.{nat_tests}
-use Rattle.stp_grammar.specs.Names.{StampSize, BadAsync, Next, Go, End, Fail, Walked, Within, after, walk, nibble_count}
+use Rattle.stp_grammar.specs.Names.{StampSize, BadAsync, Next, Go, End, Fail, Walked, Within, after, nibble_count}
 use Rattle.stp_grammar.specs.declared.packet.Order.{Order}
 use Rattle.stp_grammar.specs.declared.packet.Row.{Row}
 use Rattle.stp_grammar.specs.declared.packet.StpPacket.{StpPacket}
@@ -16,11 +16,9 @@ use Rattle.stp_grammar.proofs.Openings.{IsRow, first_cases, second_cases, third_
 use Rattle.stp_grammar.proofs.Choices.{not_zero, still_under, some_word}
 use Rattle.stp_grammar.proofs.Runs.{run_cases}
 use Rattle.stp_grammar.proofs.StampWalks.{size_cases}
+use Rattle.stp_grammar.proofs.Walking.{from}
 
 module _ (order : Order) where
-  abbrev from : Partial → List ℕ → Walked Partial StpPacket
-  from s r = walk (rule order) s r
-
   -- which nibbles leave the rule in a state
   abbrev pub Belongs : Partial → List ℕ → Type 0
   Belongs Start r = r ≡ []
@@ -123,14 +121,14 @@ module _ (order : Order) where
   never_within t v (c ∷ w) more h = cc
 
   -- by the list that was walked
-  pub belongs_from : (s t : Partial) (q r : List ℕ) → Belongs s q → from s r ≡ Within t → Belongs t (q ++ r)
+  pub belongs_from : (s t : Partial) (q r : List ℕ) → Belongs s q → from order s r ≡ Within t → Belongs t (q ++ r)
   belongs_from s t q [] h e = let k : s ≡ t = cc in subst (λ (z : Partial). Belongs z (q ++ [])) k (subst (Belongs s) (sym (append-nil q)) h)
   belongs_from s t q (b ∷ r) h e = by (rule order s b) (keeps s q b h) e (λ z l f. belongs_from z t (q ++ b ∷ []) r l f) where
-    by : (x : Next Partial StpPacket) → Leads x (q ++ b ∷ []) → after x (λ z. from z r) r ≡ Within t →
-        ((z : Partial) → Belongs z (q ++ b ∷ []) → from z r ≡ Within t → Belongs t ((q ++ b ∷ []) ++ r)) → Belongs t (q ++ (b ∷ r))
+    by : (x : Next Partial StpPacket) → Leads x (q ++ b ∷ []) → after x (λ z. from order z r) r ≡ Within t →
+        ((z : Partial) → Belongs z (q ++ b ∷ []) → from order z r ≡ Within t → Belongs t ((q ++ b ∷ []) ++ r)) → Belongs t (q ++ (b ∷ r))
     by (Go z) l e more = subst (Belongs t) (append_assoc q (b ∷ []) r) (more z l e)
-    by (End v) l e more = absurd (never_within t v r (λ z. from z r) e)
+    by (End v) l e more = absurd (never_within t v r (λ z. from order z r) e)
     by (Fail f) l e more = cc
 
-  pub belongs : (s : Partial) (r : List ℕ) → from Start r ≡ Within s → Belongs s r
+  pub belongs : (s : Partial) (r : List ℕ) → from order Start r ≡ Within s → Belongs s r
   belongs s r e = belongs_from Start s [] r refl e

@@ -3,7 +3,7 @@ use Rattle.std.proofs.Common.{◌≡◌, ℕ, ◌/◌, ◌%◌, ◌^◌, ◌<◌
 use Rattle.std.specs.Prelude.{◌==◌}
 use Rattle.std.specs.Option.{is_some}
 use Rattle.stp_grammar.specs.declared.packet.Row.{Row}
-use Rattle.stp_grammar.specs.declared.packet.Row.TheVariants.{Null, Master8, MasterError, Channel8, Datum, Flag, Master16, GlobalError, Channel16, Version, NullStamp, Trigger, Frequency}
+use Rattle.stp_grammar.specs.declared.packet.Row.TheVariants.{Null, Master8, Channel8, Master16, Channel16}
 use Rattle.stp_grammar.specs.declared.item.Place.{Place}
 use Rattle.stp_grammar.specs.declared.item.Stamp.{Stamp}
 use Rattle.stp_grammar.specs.declared.said.TheConstants.{SILENT, TELLING}
@@ -32,15 +32,4 @@ telling_is n l = is_same _ _ (below (λ k. same (TELLING / 2 ^ k % 2 == 1) (tell
 -- a row has an item where it is not silent
 pub has_item : (place : Place) (stamp : Stamp) (row : Row) (v : ℕ) → not (silent_row row) ≡ is_some (item_with place stamp row v)
 has_item place stamp Null v = refl
-has_item place stamp Master8 v = refl
-has_item place stamp MasterError v = refl
-has_item place stamp Channel8 v = refl
-has_item place stamp (Datum width marked stamped) v = refl
-has_item place stamp (Flag stamped) v = refl
-has_item place stamp Master16 v = refl
-has_item place stamp GlobalError v = refl
-has_item place stamp Channel16 v = refl
-has_item place stamp Version v = refl
-has_item place stamp NullStamp v = refl
-has_item place stamp (Trigger stamped) v = refl
-has_item place stamp (Frequency stamped) v = refl
+has_item place stamp x v = refl

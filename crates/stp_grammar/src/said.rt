@@ -12,7 +12,7 @@ use crate::opcode::row_at;
 
 /// What a packet says, with what the packets before it make of it. An item is made of it only where one is asked for:
 /// this has the same parts for all of them.
-#[derive(Clone, Copy, Debug, PartialEq, Eq, Drop)]
+#[derive(Clone, Copy, Drop)]
 pub struct Said {
     /// The number of its row in the table of opcodes, 0 to 34.
     pub number: u8,

@@ -2,7 +2,8 @@ use Rattle.std.proofs.Common.{◌+◌, refl, sym, ◌∙◌, arith}
 use Rattle.stp_codec.specs.Names.{Go, Second, Third, Run, row_at, begin}
 use Rattle.stp_codec.specs.Wholes.{nibbles_in}
 use Rattle.stp_codec.proofs.Between.{length-nibbles}
-use Rattle.stp_codec.proofs.Cutting.{all_leads, nibble_leads, second_opens}
+use Rattle.stp_codec.proofs.Cutting.{all_leads, nibble_leads}
+use Rattle.stp_codec.proofs.Finishing.{second_opens}
 use Rattle.stp_codec.proofs.cut.cut_second.Goals as goal
 
 pub returns-then-start-bytes-clause-cuts : goal.returns-then-start-bytes-clause-cuts
