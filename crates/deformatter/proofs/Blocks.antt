@@ -6,7 +6,7 @@ use Rattle.std.proofs.lemmas.List.{take_more, length-take-le}
 use Rattle.std.proofs.lemmas.Bool.{ne_eqb}
 use Rattle.frame_grammar.proofs.CellLaws.{range_push}
 use Rattle.deformatter.specs.Names.{Mode, Next, Cell, Go, End, Fail, Placed, byte_at, placed_from, Walked, Whole, after}
-use Rattle.deformatter.specs.Names.{walk, StandsIn, hunts, is_locked, IsProperBelow, PortItem, Full, Half, Frame}
+use Rattle.deformatter.specs.Names.{walk, StandsIn, hunts, is_locked, IsProperBelow, PortItem, Full, Frame}
 use Rattle.deformatter.specs.Names.{Between, First, One, State, start, rule, offsets_of, pattern}
 use Rattle.trace_values.proofs.Modes as laws
 use Rattle.trace_values.proofs.Placing.{next_placed}
@@ -32,9 +32,7 @@ range_more from n = ap (range_with_len from) (let e : n + 1 ≡ suc n = omega ar
 pub silent_cells : (from : ℕ) (s : State) (id : Option ℕ) (n : Next State PortItem) → step_by from s n ≡ Quiet → cells_by id n ≡ []
 silent_cells from s id (Go t) e = refl
 silent_cells from s id (End Full) e = cc
-silent_cells from s id (End Half) e = cc
-silent_cells from s id (End (Frame f halves)) e = cc
-silent_cells from s id (Fail r) e = cc
+silent_cells from s id n e = cc
 
 -- one more byte
 pub each_push : (P : List Placed → ℕ → ℕ → Type 0) (u : List Placed) (from : ℕ) (bytes : List ℕ) (b : ℕ) → EachByte P u from bytes →

@@ -9,7 +9,7 @@ use Rattle.frame_grammar.specs.Port as port
 use Rattle.deformatter.specs.Reading.{PortStream, read_after, all_skipped, port_stream, cells_in, id_in}
 use Rattle.deformatter.specs.Growth.{PortGrows, goes_on}
 use Rattle.port_sync.specs.declared.aligner.Part.{Part}
-use Rattle.port_sync.specs.declared.aligner.Part.TheVariants.{Between, First, One, Two, Three}
+use Rattle.port_sync.specs.declared.aligner.Part.TheVariants.{Two, Three}
 use Rattle.deformatter.specs.Phase.{mode_in}
 use Rattle.deformatter.specs.Rule.{count_of, step_by, cells_by, id_by}
 use Rattle.deformatter.specs.declared.deformatter.Phase.{Phase}
@@ -102,19 +102,15 @@ stays_live at s (Go t) = by (t.halves == s.halves) where
   by true = refl
   by false = refl
 stays_live at s (End Full) = refl
-stays_live at s (End port.Half) = refl
-stays_live at s (End (port.Frame f h)) = refl
-stays_live at s (Fail e) = refl
+stays_live at s n = refl
 
 is_seven : (n : ℕ) → (n == 7) ≡ true → n ≡ 7
 is_seven n e = grind (arith, nat_tests)
 
 fits_by : (left : ℕ) (part : Part) (at : ℕ) → is_fit left part ≡ true → Fits (placed_part part at) left
-fits_by left Between at e = tt
-fits_by left (First a) at e = tt
-fits_by left One at e = tt
 fits_by left Two at e = is_seven left e
 fits_by left Three at e = is_seven left e
+fits_by left x at e = tt
 
 few_after : (s : State) (n : Next State PortItem) → Lawful s n → count_of (state_after start n s) ≤ count_of s + 1
 few_after s (Go t) l = (let e = l.2 in omega arith)

@@ -3,7 +3,7 @@ use Rattle.std.proofs.Common.{◌≡◌, ℕ, ◌+◌, refl, sym, ap, arith, Boo
 use Rattle.std.proofs.lemmas.Bool.{eq-eqb, ne_eqb}
 use Rattle.deformatter.specs.Names.{Go, State, size_of, placed_part}
 use Rattle.port_sync.specs.declared.aligner.Part.{Part}
-use Rattle.port_sync.specs.declared.aligner.Part.TheVariants.{Between, First, One, Two, Three}
+use Rattle.port_sync.specs.declared.aligner.Part.TheVariants.{Between}
 use Rattle.deformatter.specs.Rule.{part_size, step_by}
 use Rattle.deformatter.specs.declared.step.PortStep.TheVariants.{Quiet, Half as HalfEnds}
 
@@ -16,7 +16,4 @@ half_step at s t e = sym (ap (λ (b : Bool). cond b Quiet HalfEnds) (ne_eqb t.ha
 
 pub size_is : (part : Part) (at : ℕ) → part_size (placed_part part at) ≡ size_of part
 size_is Between at = refl
-size_is (First a) at = refl
-size_is One at = refl
-size_is Two at = refl
-size_is Three at = refl
+size_is x at = refl

@@ -20,8 +20,7 @@ use Rattle.deformatter.specs.declared.step.PortStep.TheVariants.{Quiet, Half as 
 use Rattle.deformatter.specs.declared.step.PortStep.TheVariants.{Frame as FrameEnds, Locked, Fault as Faulty}
 use Rattle.deformatter.specs.Modes.{is_bare, hunts}
 use Rattle.deformatter.specs.PortReading.{PortReading, item_frames, frames_of_items, framed, bare_cell, bare, port_reading}
-use Rattle.deformatter.specs.ReadingGrowth.{frames_by, CellsFit, Grows, Answers, IsInside, FedFrame}
-use Rattle.deformatter.specs.ReadingGrowth.{GrowsByFrame}
+use Rattle.deformatter.specs.ReadingGrowth.{frames_by, CellsFit, Grows, Answers, IsInside, FedFrame, GrowsByFrame}
 use Rattle.deformatter.specs.Reader.{StandsByMode}
 use Rattle.deformatter.proofs.Growing.{items_push}
 use Rattle.deformatter.proofs.PortReadingLaws.{frames_of_items-append}

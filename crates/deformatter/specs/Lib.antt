@@ -15,5 +15,4 @@ pub mod Reader
 pub mod Piece
 pub mod Runs
 pub mod ByGrammar
-pub mod Rows
 pub mod Rising

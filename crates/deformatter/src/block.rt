@@ -1,7 +1,6 @@
 //! Bytes of a piece at once.
 
-ghost use Rattle.std.specs.Prelude.{◌≡◌, ◌<◌, ◌≤◌, ◌+◌, ◌++◌, [], ℕ, List, length, take, true, IfSome};
-ghost use Rattle.std.specs.Prelude.{slice_index};
+ghost use Rattle.std.specs.Prelude.{◌≡◌, ◌<◌, ◌≤◌, ◌+◌, ◌++◌, [], ℕ, List, length, take, true, IfSome, slice_index};
 ghost use Rattle.std.specs.List.{range_with_len};
 ghost use Rattle.deformatter.specs.Names.{Placed, placed_from, IsProperFrame, COUNT_ROOM, PART_ROOM, FRAME_BYTES};
 ghost use Rattle.deformatter.specs.declared.step.PortStep.TheVariants.{Frame};
@@ -17,7 +16,7 @@ use frame_grammar::plain::plain_frame;
 use trace_values::Cell;
 
 /// What a deformatter took of a piece.
-#[derive(Clone, Copy, Debug, PartialEq, Eq, Drop)]
+#[derive(Clone, Copy, Drop)]
 pub struct Taken {
     /// How many bytes from its front, at least one.
     pub bytes: usize,

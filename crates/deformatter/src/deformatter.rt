@@ -13,7 +13,7 @@ use port_sync::{Aligner, Half, Hunter};
 use trace_values::{Cell, Fault, SourceId};
 
 /// How far a deformatter has come: it reads from the first byte on; it hunts; or it has locked.
-#[derive(Clone, Copy, Debug, PartialEq, Eq, Drop)]
+#[derive(Clone, Copy, Drop)]
 pub enum Phase {
     Aligned,
     Hunting,
@@ -21,7 +21,7 @@ pub enum Phase {
 }
 
 /// Reads the bytes of a port one by one, and keeps only what it needs of the one unfinished frame.
-#[derive(Debug, Drop)]
+#[derive(Drop)]
 pub struct Deformatter {
     pub(crate) phase: Phase,
     pub(crate) hunter: Hunter,
@@ -38,10 +38,9 @@ pub struct Deformatter {
 }
 
 impl Deformatter {
-    ghost use Rattle.std.specs.Prelude.{◌++◌, [], ◌∷◌, ℕ, List, false, is_none};
+    ghost use Rattle.std.specs.Prelude.{◌++◌, [], ◌∷◌, ℕ, List, false, is_none, IsTrue};
     ghost use Rattle.deformatter.specs.Names.{run_of, Placed, units_of, byte_at, placed_from, id_after, live_after};
     ghost use Rattle.deformatter.specs.Names.{state_after, Frame, Spells, start, rule};
-    ghost use Rattle.std.specs.Prelude.{IsTrue};
     ghost use Rattle.deformatter.specs.Block.{FedFrame, TakesByte};
     ghost use Rattle.deformatter.specs.Frames.{IsBetween, GrowsByFrame};
     ghost use Rattle.deformatter.specs.declared.step.PortStep.TheVariants.{Quiet};

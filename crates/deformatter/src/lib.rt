@@ -9,7 +9,6 @@ pub mod laws;
 mod reader;
 pub mod reading_laws;
 mod resume;
-pub mod rows;
 mod step;
 mod unfinished;
 

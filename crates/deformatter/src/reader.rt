@@ -11,7 +11,7 @@ use arrayvec::ArrayVec;
 use trace_values::{Cell, FramesMode, SourceId};
 
 /// Reads the bytes of a port one by one, in one mode.
-#[derive(Debug, Drop)]
+#[derive(Drop)]
 pub struct PortReader {
     mode: FramesMode,
     /// What takes the frames apart; with no formatter no byte is fed to it.
@@ -33,8 +33,7 @@ fn bare_cell_of(at: u64, byte: u8) -> Cell
 }
 
 impl PortReader {
-    ghost use Rattle.std.specs.Prelude.{◌++◌, [], ◌∷◌, List, true, is_none};
-    ghost use Rattle.std.specs.Prelude.{IsTrue, ℕ, ◌<◌, length, take};
+    ghost use Rattle.std.specs.Prelude.{◌++◌, [], ◌∷◌, List, true, is_none, IsTrue, ℕ, ◌<◌, length, take};
     ghost use Rattle.deformatter.specs.Names.{Placed, units_of, placed_from, cells, id_after, Frame, Spells};
     ghost use Rattle.deformatter.specs.Names.{offsets_of};
     ghost use Rattle.deformatter.specs.Growth.{goes_on};

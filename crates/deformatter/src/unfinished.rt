@@ -8,7 +8,7 @@ use frame_grammar::frame::{FRAME_BYTES, cells_of};
 use trace_values::{Cell, SourceId};
 
 /// A frame's bytes so far, with their offsets, and how many half synchronisations are between them.
-#[derive(Debug, Drop)]
+#[derive(Drop)]
 pub struct Unfinished {
     bytes: [u8; FRAME_BYTES],
     offsets: [u64; FRAME_BYTES],

@@ -155,6 +155,3 @@ segment_frames every halves segments = segments_then every halves none_later seg
 -- the written segments
 abbrev pub written_segments : ℕ → ℕ → List (List Tagged) → List ℕ
 written_segments every halves segments = concat (segment_frames every halves segments)
-
-abbrev pub capture : ℕ → ℕ → List Tagged → List ℕ
-capture every halves t = written_segments every halves (t ∷ [])

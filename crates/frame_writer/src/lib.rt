@@ -5,7 +5,6 @@
 mod frame;
 pub mod laws;
 mod pair;
-pub mod rows;
 mod sure;
 mod writer;
 

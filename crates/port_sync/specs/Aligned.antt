@@ -47,11 +47,8 @@ left_after Waiting left = left
 left_after (Bad e) left = left
 
 abbrev pub is_bad : Half → Bool
-is_bad (Pair a b) = false
-is_bad HalfSync = false
-is_bad FullSync = false
-is_bad Waiting = false
 is_bad (Bad e) = true
+is_bad x = false
 
 -- a halfword does not begin with FF, and two or three FF are between frames
 abbrev pub is_fit : ℕ → Part → Bool

@@ -21,7 +21,7 @@ pub enum Half {
 }
 
 /// What of a halfword or a synchronisation is there: nothing, a halfword's first byte, or this many FF.
-#[derive(Clone, Copy, Debug, PartialEq, Eq, Drop)]
+#[derive(Clone, Copy, Drop)]
 pub enum Part {
     Between,
     First(u8),
@@ -32,7 +32,7 @@ pub enum Part {
 
 /// Puts the bytes of a port together to halfwords and synchronisations, and counts the halfwords of the
 /// frame.
-#[derive(Debug, Drop)]
+#[derive(Drop)]
 pub struct Aligner {
     /// How many halfwords of the frame follow the next one; 7 between frames.
     left: u8,

@@ -12,7 +12,7 @@ const FULL_SYNC: Pattern = Pattern {
 };
 
 /// Looks for `FF FF FF 7F` in bytes that may begin anywhere.
-#[derive(Debug, Drop)]
+#[derive(Drop)]
 pub struct Hunter {
     /// How many FF end the bytes so far; more than three count as three.
     run: u8,
