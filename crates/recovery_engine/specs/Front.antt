@@ -1,14 +1,24 @@
 -- What a recovering engine takes of the front of a piece.
-use Rattle.std.specs.Prelude.{◌≡◌, ◌<◌, ◌≤◌, ℕ, ◌+◌, ◌*◌, List, ◌++◌, length, take}
+use Rattle.std.specs.Prelude.{◌≡◌, ◌<◌, ◌≤◌, ℕ, ◌+◌, ◌*◌, List, ◌++◌, length, map, take}
 use Rattle.trace_values.specs.Placed.{Placed, placed_from}
+use Rattle.deformatter.specs.Rising.{BytesRise}
+use Rattle.frame_grammar.specs.Frame.{cells}
 use Rattle.frame_grammar.specs.declared.frame.TheConstants.{FRAME_BYTES}
 use Rattle.frame_grammar.specs.declared.gather.PlacedFrame.{PlacedFrame}
-use Rattle.frame_runs.specs.Gathered.{IsGathered}
+use Rattle.frame_runs.specs.Gathered.{IsGathered, frame_places}
 use Rattle.source_events.specs.declared.event.Event.{Event}
 use Rattle.source_events.specs.declared.packet.Packet.{Packet}
+use Rattle.source_events.specs.Runs.{runs_of}
 use Rattle.stretch_readings.specs.declared.heard.Heard.{Heard}
-use Rattle.recovery_report.specs.Report.{report_with}
+use Rattle.recovering_machines.specs.Port as ports
+use Rattle.recovering_machines.specs.declared.port.RecoveringPort.{RecoveringPort}
+use Rattle.recovery_report.specs.Port.{recovered}
+use Rattle.recovery_report.specs.Report.{Run, parts_in, report_with}
+use Rattle.recovery_engine.specs.Counting.{HasCounted}
 use Rattle.recovery_engine.specs.Engine.{Stands, count_of, guesses_of, plan_of}
+use Rattle.recovery_engine.specs.Heard.{AreUnread}
+use Rattle.recovery_engine.specs.Port.{PortStands}
+use Rattle.recovery_engine.specs.declared.counts.PortTotals.{PortTotals}
 use Rattle.recovery_engine.specs.declared.engine.Recovery.{Recovery}
 
 -- It took so many bytes of the piece, whose first is the next one, and stands for them after what it stood for. The
@@ -40,3 +50,29 @@ pub record TakesGathered {S : Type 0} (gets : S → List (Event (Heard Packet)) 
       report_with (guesses_of old.0) (plan_of old.0) (u ++ placed_from frame.at w)
       ≡ report_with (guesses_of old.0) (plan_of old.0) u ++ given)
   pub room : left old.1 ≤ left new.1 + 30
+
+-- It took so many bytes of the piece, as above, and none of the events that the report grows by is a packet or a fault.
+abbrev pub CountsFront : List ℕ → ℕ → Recovery → Recovery → Type 0
+CountsFront piece taken old new =
+    TakesFront {S = Unit {0}} (λ s given t. AreUnread given) (λ s. 0) piece taken (old, tt) (new, tt)
+
+-- What bytes of which the frame is gathered are after those that an engine stood for: its port and counts have them, too,
+-- and its parts grew by the frame's runs.
+pub record AddsFrame (frame : PlacedFrame) (old : Recovery) (port : RecoveringPort) (totals : PortTotals) (count : ℕ)
+    (u : List Placed) (w : List ℕ) : Type 0 where
+  pub port_is : PortStands old.plan.frames port (u ++ placed_from frame.at w)
+  pub counted : HasCounted totals (recovered old.plan.frames (u ++ placed_from frame.at w))
+  pub count_is : count ≡ length (u ++ placed_from frame.at w)
+  pub rising : BytesRise 0 count (u ++ placed_from frame.at w)
+  pub parts : parts_in (recovered old.plan.frames (u ++ placed_from frame.at w))
+      ≡ parts_in (recovered old.plan.frames u)
+      ++ map Run (runs_of (cells frame.bytes (frame_places frame) (ports.id_of old.port)))
+
+-- Its port passed over a whole frame, which is counted; its sources are as before.
+pub record PassesGathered (frame : PlacedFrame) (old new : Recovery) : Type 0 where
+  pub plan : plan_of new ≡ plan_of old
+  pub guesses : guesses_of new ≡ guesses_of old
+  pub slots : new.slots ≡ old.slots
+  pub count : count_of new ≡ count_of old + (FRAME_BYTES + 2 * frame.halves)
+  pub adds : (u : List Placed) (w : List ℕ) → Stands old u → IsGathered frame.at w frame →
+      AddsFrame frame old new.port new.totals new.count u w

@@ -14,7 +14,7 @@ use Rattle.recovery_report.specs.Report.{sure_events}
 use Rattle.recovery_listing.specs.FaultLines.{fault_lines}
 use Rattle.recovery_listing.specs.Listing.{has_fault}
 use Rattle.recovery_listing.specs.Noting.{NotingGets, given_of, is_misread, with_losses}
-use Rattle.recovery_listing.specs.Sure.{sure_faults_append, sure_lines_append}
+use Rattle.recovery_listing.specs.SureLaws.{sure_faults_append, sure_lines_append}
 use Rattle.recovery_listing.specs.declared.noting.Noting.{Noting}
 
 -- what is read is no fault of a guess

@@ -14,7 +14,7 @@ use Rattle.recovery_listing.specs.FaultLines.{fault_lines, noted_faults}
 use Rattle.recovery_listing.specs.Listing.{has_fault, is_faulty, seen_in}
 use Rattle.recovery_listing.specs.PortText.{noted_text, port_text_meaning}
 use Rattle.recovery_listing.specs.PortTextLaws.{values_more, without_losses}
-use Rattle.recovery_listing.specs.Sure.{faulty_more, noted_more}
+use Rattle.recovery_listing.specs.SureLaws.{faulty_more, noted_more}
 use Rattle.recovery_listing.specs.Text.{HasPut, asked, gets}
 use Rattle.recovery_listing.specs.declared.going_on.GoingOn.{GoingOn}
 use Rattle.recovery_listing.specs.declared.noting.Noting.{Noting}

@@ -30,9 +30,17 @@ fn counts_of(engine: &Recovery, heard: &HeardCounts, id: SourceId) -> Counts
     ensures few { (result.bytes ≤ GREATEST_COUNT) × (result.items ≤ GREATEST_COUNT) }
 {
     let _bytes = engine.next();
-    Counts {
-        bytes: engine.bytes(id).min(GREATEST_COUNT),
-        items: heard.items(id),
+    let sent = engine.counts(id);
+    let bytes = sent.bytes.min(GREATEST_COUNT);
+    match engine.kind_of(id) {
+        Some(_) => Counts {
+            bytes,
+            items: heard.packets(id),
+        },
+        None => Counts {
+            bytes,
+            items: sent.items.min(GREATEST_COUNT),
+        },
     }
 }
 

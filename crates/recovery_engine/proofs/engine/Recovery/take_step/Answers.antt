@@ -12,6 +12,7 @@ use Rattle.recovery_engine.specs.declared.slot.RecoveringSlot.{RecoveringSlot}
 use Rattle.source_merge.proofs.Refilled.{refilled}
 use Rattle.recovery_engine.proofs.Blocks.{framed_counts, framed_parts, port_list}
 use Rattle.recovery_engine.proofs.Feeding.{report_more, rises_more, stands_more}
+use Rattle.recovery_engine.proofs.PortCounts.{recovered_runs}
 use Rattle.recovery_engine.proofs.engine.Recovery.take_step.Goals as goal
 
 pub returns : goal.returns
@@ -54,7 +55,8 @@ returns g c =
             (subst (λ l. CountsGrow (recovered plan.frames u) (recovered plan.frames (u ++ w)) port.result.step l)
             (sym c.as_slice-cells.ensures.value)
             (framed_counts self.port at bytes port.result.step port.new.out.items
-            port.ensures.fed port.ensures.cells plan.frames u c.requires.framed k.port)) (k.counted framed);
+            port.ensures.fed port.ensures.cells plan.frames u c.requires.framed k.port))
+            (recovered_runs plan.frames (u ++ w)) (k.counted framed);
         count = (let e = k.count in let l = length-append u w in let p = length-placed_from at bytes in
             omega (arith, e, l, p, size));
         rising = rises_more u at port.result.bytes bytes size k.rising;
