@@ -1,15 +1,16 @@
 -- What bytes add to the counts of the port.
 use Rattle.std.proofs.Common.{◌≡◌, ℕ, suc, ◌+◌, List, [], ◌∷◌, ◌++◌, refl, sym, ◌∙◌, ap, subst, arith, append-nil}
 use Rattle.std.proofs.Common.{map, flat_map, length, Bool, true, false, cond, inl, inr, ◌⊎◌}
-use Rattle.std.specs.Prelude.{◌==◌, ◌&&◌, ◌||◌, ◌≢◌}
+use Rattle.std.specs.Prelude.{◌==◌, ◌&&◌, ◌||◌, ◌≢◌, if◌then◌else◌, Option, None, Some}
 use Rattle.std.specs.List.{count_by, range_with_len}
+use Rattle.std.proofs.lemmas.Grind.{flat_map-append}
 use Rattle.std.proofs.lemmas.List.{length-map}
 use Rattle.std.proofs.lemmas.List.Sums.{sum_by-cons}
 use Rattle.trace_values.specs.declared.cell.Cell.{Cell}
-use Rattle.trace_values.specs.Placed.{Placed}
+use Rattle.trace_values.specs.Placed.{Place, Placed}
+use Rattle.trace_values.specs.declared.fault.Reason.{Reason}
 use Rattle.trace_values.specs.declared.reading_modes.FramesMode.{FramesMode}
 use Rattle.trace_values.specs.declared.reading_modes.FramesMode.TheVariants.{Hunt, Aligned, Bare}
-use Rattle.deformatter.specs.Growth.{fulls_by, halves_by}
 use Rattle.deformatter.specs.PortReading.{bare_cell, framed}
 use Rattle.deformatter.specs.Reading.{port_stream}
 use Rattle.deformatter.specs.ReadingGrowth.{frames_by}
@@ -18,20 +19,20 @@ use Rattle.deformatter.specs.declared.step.PortStep.{PortStep}
 use Rattle.deformatter.specs.declared.step.PortStep.TheVariants.{Quiet, Half, Full as FullEnds, Frame, Locked}
 use Rattle.deformatter.specs.declared.step.PortStep.TheVariants.{Fault as Faulty}
 use Rattle.deformatter.proofs.PortReadingLaws.{frames_have_runs}
+use Rattle.frame_grammar.specs.Port.{PortItem}
 use Rattle.frame_grammar.specs.Reading.{source_list}
 use Rattle.frame_grammar.specs.Runs.{HasRuns}
 use Rattle.source_counts.specs.Counts.{all_cells, bytes_of, frame_items, items_of, unattributed_of}
-use Rattle.source_counts.specs.Kept.{Stands as Kept}
 use Rattle.source_counts.specs.declared.counts.Counts.{Counts}
 use Rattle.source_events.proofs.Merges.{same_or_not, test_other}
+use Rattle.source_events.specs.Runs.{runs_of, all_runs as runs_in_all}
 use Rattle.stretch_readings.specs.Stretches.{Stretch, Stretches}
 use Rattle.recovering_machines.specs.Port.{raised}
 use Rattle.recovery_report.specs.Counts.{CountsGrow}
 use Rattle.recovery_report.specs.Port.{PortStretch, PortStretches, of_stretches, port_stretches, recovered, stretch_of}
 use Rattle.recovery_report.specs.Port.{frames_of, fulls_of, halves_of}
+use Rattle.recovery_report.specs.Report.{Run, break_of, lock_of, parts_of, run_in}
 use Rattle.recovery_report.proofs.CountLaws.{frames_push}
-use Rattle.recovery_engine.specs.Counting.{HasCounted}
-use Rattle.recovery_engine.specs.declared.counts.PortTotals.{PortTotals}
 
 -- a lock ends as much, whatever its count
 pub by_raised : (old new : PortStretches) (count : ℕ) (step : PortStep) (cells : List Cell) →
@@ -174,3 +175,38 @@ pub recovered_runs : (mode : FramesMode) (u : List Placed) → HaveRuns (frames_
 recovered_runs Bare u = subst (λ l. HaveRuns l) (sym (bare_frames_are u)) (frames_have_runs Bare u)
 recovered_runs Aligned u = all_runs (port_stretches Aligned u)
 recovered_runs Hunt u = all_runs (port_stretches Hunt u)
+
+-- the runs of the parts are those of the frames
+no_lock : (h : Bool) (items : List (PortItem × Place)) (n : ℕ) →
+    flat_map run_in (if h then lock_of items n else []) ≡ []
+no_lock false items n = refl
+no_lock true [] n = refl
+no_lock true (item ∷ items) n = refl
+
+no_break : (o : Option (Place × Reason)) → flat_map run_in (break_of o) ≡ []
+no_break None = refl
+no_break (Some f) = refl
+
+run_back : (runs : List (List Cell)) → flat_map run_in (map Run runs) ≡ runs
+run_back [] = refl
+run_back (run ∷ runs) = ap (λ l. run ∷ l) (run_back runs)
+
+runs_in_stretch : (s : PortStretch) → flat_map run_in (parts_of s) ≡ runs_in_all s.reading.frames
+runs_in_stretch s =
+    let lock = if s.hunts then lock_of s.items.items s.skipped else [] in
+    let runs = map Run (runs_in_all s.reading.frames) in
+    flat_map-append run_in lock (runs ++ break_of s.reading.fault)
+    ∙ ap (λ l. l ++ flat_map run_in (runs ++ break_of s.reading.fault)) (no_lock s.hunts s.items.items s.skipped)
+    ∙ flat_map-append run_in runs (break_of s.reading.fault)
+    ∙ ap (λ l. flat_map run_in runs ++ l) (no_break s.reading.fault) ∙ append-nil (flat_map run_in runs)
+    ∙ run_back (runs_in_all s.reading.frames)
+
+pub runs_are : (ss : List PortStretch) →
+    flat_map run_in (flat_map parts_of ss) ≡ runs_in_all (flat_map (λ (s : PortStretch). s.reading.frames) ss)
+runs_are [] = refl
+runs_are (s ∷ ss) =
+    let frames : List (List Cell) = flat_map (λ (t : PortStretch). t.reading.frames) ss in
+    flat_map-append run_in (parts_of s) (flat_map parts_of ss)
+    ∙ ap (λ l. l ++ flat_map run_in (flat_map parts_of ss)) (runs_in_stretch s)
+    ∙ ap (λ l. runs_in_all s.reading.frames ++ l) (runs_are ss)
+    ∙ sym (flat_map-append (λ (frame : List Cell). runs_of frame) s.reading.frames frames)

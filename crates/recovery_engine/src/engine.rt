@@ -76,7 +76,7 @@ impl Recovery {
     ghost use Rattle.recovery_report.specs.Port.{frames_of, recovered};
     ghost use Rattle.recovery_report.specs.Report.{tails_of};
     ghost use Rattle.recovery_engine.specs.Engine.{Stands, count_of, guesses_of, plan_of};
-    ghost use Rattle.recovery_engine.specs.Front.{CountsFront, PassesGathered, TakesFront, TakesGathered};
+    ghost use Rattle.recovery_engine.specs.Front.{CountsFront, PassesGathered, TakesFront};
 
     /// An engine before the first byte.
     pub fn new(plan: Plan, guesses: bool) -> Recovery
@@ -102,8 +102,8 @@ impl Recovery {
     }
 
     /// Takes bytes from the front of a piece, which comes next, and gives the events that the recovering report grows
-    /// by: a whole frame, or else bytes up to the first one that ends a frame or a synchronisation, or is a fault, or to
-    /// the piece's end. With no formatter it takes bytes for whose events there is room.
+    /// by: a whole frame, or else bytes up to the first one that ends a frame or a synchronisation, or is a fault, or
+    /// to the piece's end. With no formatter it takes bytes for whose events there is room.
     ///
     /// The piece has a byte, and there is room for 30 events.
     pub fn take<V: Hearer>(&mut self, piece: &[u8], out: &mut V, to: &mut V::To) -> usize
@@ -114,27 +114,18 @@ impl Recovery {
             (self.old, (out.old, to.old)) (self.new, (out.new, to.new)) }
     {
         match self.plan.frames {
-            FramesMode::Bare => self.take_bare(piece, out, to),
+            FramesMode::Bare => {
+                if piece.len() > END_ROOM {
+                    self.take_long(piece, out, to)
+                } else {
+                    self.take_short(piece, out, to)
+                }
+            }
             FramesMode::Hunt | FramesMode::Aligned => self.take_framed(piece, out, to),
         }
     }
 
-    /// Takes bytes of a capture with no formatter.
-    fn take_bare<V: Hearer>(&mut self, piece: &[u8], out: &mut V, to: &mut V::To) -> usize
-        requires bare { self.old.plan.frames ≡ Bare }
-        requires some { 0 < length piece.now }
-        requires limit { count_of self.old + length piece.now ≤ GREATEST_OFFSET + 1 }
-        requires room { 30 ≤ V.room (out.old, to.old) }
-        ensures { TakesFront V.gets V.room piece.now result
-            (self.old, (out.old, to.old)) (self.new, (out.new, to.new)) }
-    {
-        if piece.len() > END_ROOM {
-            return self.take_long(piece, out, to);
-        }
-        self.take_short(piece, out, to)
-    }
-
-    /// Takes bytes of a long piece where they are.
+    /// Takes bytes of a long piece of a capture with no formatter, where they are.
     #[inline(always)]
     fn take_long<V: Hearer>(&mut self, piece: &[u8], out: &mut V, to: &mut V::To) -> usize
         requires bare { self.old.plan.frames ≡ Bare }
@@ -153,7 +144,7 @@ impl Recovery {
         self.take_piece(&run, out, to)
     }
 
-    /// Takes bytes of a short piece, which are copied.
+    /// Takes bytes of a short piece of a capture with no formatter, which are copied.
     #[inline(never)]
     fn take_short<V: Hearer>(&mut self, piece: &[u8], out: &mut V, to: &mut V::To) -> usize
         requires bare { self.old.plan.frames ≡ Bare }
@@ -200,11 +191,13 @@ impl Recovery {
         ensures { TakesFront V.gets V.room piece.now result
             (self.old, (out.old, to.old)) (self.new, (out.new, to.new)) }
     {
-        if let Some(frame) = self.frame_at(piece) {
-            self.take_gathered(&frame, out, to);
-            return frame.size();
-        }
-        self.take_step(piece, out, to)
+        let Some(frame) = self.frame_at(piece) else {
+            return self.take_step(piece, out, to);
+        };
+        let before = self.port.id();
+        self.pass_gathered(&frame);
+        take_whole(self.slots.as_mut_slice(), &frame, &before, out, to);
+        frame.size()
     }
 
     /// The whole frame that a piece begins with, which comes next, where the port is between two frames.
@@ -229,21 +222,6 @@ impl Recovery {
         }
     }
 
-    /// Takes a whole frame.
-    fn take_gathered<V: Hearer>(&mut self, frame: &PlacedFrame, out: &mut V, to: &mut V::To)
-        requires framed { self.old.plan.frames ≢ Bare }
-        requires between { IsBetween self.old.port }
-        requires limit { count_of self.old + (FRAME_BYTES + 2 * frame.now.halves) ≤ GREATEST_OFFSET + 1 }
-        requires here { frame.now.at ≡ count_of self.old }
-        requires room { 30 ≤ V.room (out.old, to.old) }
-        ensures { TakesGathered V.gets V.room frame.now
-            (self.old, (out.old, to.old)) (self.new, (out.new, to.new)) }
-    {
-        let before = self.port.id();
-        self.pass_gathered(frame);
-        take_whole(self.slots.as_mut_slice(), frame, &before, out, to);
-    }
-
     /// Counts a whole frame, over which the port passes. Its runs are not taken.
     #[inline(always)]
     fn pass_gathered(&mut self, frame: &PlacedFrame)
@@ -259,9 +237,9 @@ impl Recovery {
         self.count += frame.size() as u64;
     }
 
-    /// Where no source is mapped: takes the whole frame that a piece begins with, which comes next, and answers how many
-    /// bytes that is. It leaves what `take` does; the frame's events, none of which is a packet or a fault, are not
-    /// made. None says nothing of the bytes, and takes none.
+    /// Where no source is mapped: takes the whole frame that a piece begins with, which comes next, and answers how
+    /// many bytes that is. It leaves what `take` does; the frame's events, none of which is a packet or a fault, are
+    /// not made. None says nothing of the bytes, and takes none.
     pub fn count_frame(&mut self, piece: &[u8]) -> Option<usize>
         requires limit { count_of self.old + length piece.now ≤ GREATEST_OFFSET + 1 }
         ensures none { result ≡ None → self.new ≡ self.old }

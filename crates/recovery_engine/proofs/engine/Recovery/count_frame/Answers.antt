@@ -6,7 +6,7 @@ use Rattle.recovering_machines.specs.Port.{id_of}
 use Rattle.recovery_report.specs.Report.{Run}
 use Rattle.recovery_engine.specs.Taking.{Takes}
 use Rattle.recovery_engine.specs.declared.slot.RecoveringSlot.{RecoveringSlot}
-use Rattle.recovery_engine.proofs.Gathering.{all_unread, front_of, gathered, unread}
+use Rattle.recovery_engine.proofs.Gathering.{all_unread, fronted, unread}
 use Rattle.recovery_engine.proofs.engine.Recovery.count_frame.Goals as goal
 
 pub returns-clause-counts : goal.returns-clause-counts
@@ -17,9 +17,9 @@ returns-clause-counts c =
     let frame = c.in-Some.frame in
     let none : self.slots.items ≡ [] = c.maps_none.ensures c.if-not-maps_none.false in
     let runs = runs_of (cells frame.bytes (frame_places frame) (id_of self.port)) in
-    front_of unread (λ s. 0) frame c.size.result c.args.piece.now (self, tt) (new, tt)
-    c.in-Some.ensures.here c.size.ensures c.in-Some.ensures.within c.in-Some.ensures.is
-    (gathered unread (λ s. 0) frame self new tt tt p.plan p.guesses p.count p.adds
+    let seen = c.in-Some.ensures in
+    fronted unread (λ s. 0) frame c.size.result c.args.piece.now self new seen.here c.size.ensures seen.within
+    seen.is p.plan p.guesses p.count p.adds
     (subst (λ (l : List RecoveringSlot). Takes unread (map Run runs) (l, tt) (new.slots.items, tt)) (sym none)
-    (subst (λ (l : List RecoveringSlot). Takes unread (map Run runs) ([], tt) (l, tt)) (sym (ap (λ s. s.items) p.slots ∙ none))
-    (all_unread runs))) (omega arith))
+    (subst (λ (l : List RecoveringSlot). Takes unread (map Run runs) ([], tt) (l, tt))
+    (sym (ap (λ s. s.items) p.slots ∙ none)) (all_unread runs))) (omega arith)

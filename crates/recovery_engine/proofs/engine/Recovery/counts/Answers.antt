@@ -1,4 +1,4 @@
-use Rattle.std.proofs.Common.{◌∙◌, ℕ, ap, arith, cond, length}
+use Rattle.std.proofs.Common.{◌∙◌, ℕ, ap, arith, cond}
 use Rattle.std.specs.Prelude.{◌==◌}
 use Rattle.recovery_report.specs.Port.{recovered}
 use Rattle.recovery_engine.proofs.PortCounts.{bare_is, framed_by}

@@ -1,7 +1,7 @@
 use Rattle.std.proofs.Common.{◌≡◌, ◌+◌, ◌*◌, ℕ, List, Option, ◌++◌, length, refl, sym, ◌∙◌, ap, subst, arith, map}
 use Rattle.std.proofs.lemmas.List.{length-append}
 use Rattle.trace_values.specs.declared.cell.Cell.{Cell}
-use Rattle.trace_values.specs.Placed.{Placed, placed_from, units_of}
+use Rattle.trace_values.specs.Placed.{placed_from, units_of}
 use Rattle.trace_values.proofs.Placing.{length-placed_from}
 use Rattle.deformatter.specs.Rising.{BytesRise}
 use Rattle.frame_grammar.specs.Frame.{cells, id_after}
@@ -57,7 +57,7 @@ returns c =
             (λ r s. c.pass_frame.ensures.list r (without_halves (placed_from at w)) frame.halves at w s
             (q.whole.spelled at) (c.add_frame-after.ensures.after ∙ ap (id_after frame.bytes) c.id-before.ensures
             ∙ ap (λ (l : List ℕ). id_after l (id_of self.port)) (sym (q.whole.frame_is at)))) k.port;
-        counted =
+        counted = λ framed.
             c.add_frame-after.ensures.counted (recovered plan.frames u) (recovered plan.frames (u ++ placed_from at w))
             (frame_places frame)
             (subst (λ (l : List Cell). GrowsByFrame (recovered plan.frames u)
@@ -67,7 +67,8 @@ returns c =
             plan.frames u c.requires.framed k.port)) (k.counted c.requires.framed);
         count_is = (let e = k.count in let l = length-append u (placed_from at w) in let p = length-placed_from at w in
             let n = gathered w q in let s = c.size.ensures in omega (arith, e, l, p, n, s));
-        rising = subst (λ (n : ℕ). BytesRise 0 (self.count + c.size.result) (u ++ placed_from n w)) (sym c.requires.here)
+        rising =
+            subst (λ (n : ℕ). BytesRise 0 (self.count + c.size.result) (u ++ placed_from n w)) (sym c.requires.here)
             (rises_more u self.count c.size.result w (gathered w q ∙ sym c.size.ensures) k.rising);
         parts =
             frame_parts self.port at w (without_halves (placed_from at w)) frame.halves
