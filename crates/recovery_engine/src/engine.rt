@@ -240,6 +240,7 @@ impl Recovery {
     /// Where no source is mapped: takes the whole frame that a piece begins with, which comes next, and answers how
     /// many bytes that is. It leaves what `take` does; the frame's events, none of which is a packet or a fault, are
     /// not made. None says nothing of the bytes, and takes none.
+    #[inline]
     pub fn count_frame(&mut self, piece: &[u8]) -> Option<usize>
         requires limit { count_of self.old + length piece.now ≤ GREATEST_OFFSET + 1 }
         ensures none { result ≡ None → self.new ≡ self.old }

@@ -1,18 +1,13 @@
--- What a source has in a recovering report: the packets of one that is mapped, and of any other the items of all frames.
-use Rattle.std.proofs.Common.{◌≡◌, ℕ, ◌+◌, List, [], ◌∷◌, ◌++◌, length, refl, sym, ◌∙◌, ap, arith, append-nil, cond}
-use Rattle.std.proofs.Common.{Option, None, Some, Bool, true, false, map, flat_map}
-use Rattle.std.specs.Prelude.{◌==◌, ◌&&◌, if◌then◌else◌}
+-- What a source has in a recovering report: the packets of one that is mapped, and of any other the frames' items.
+use Rattle.std.proofs.Common.{◌≡◌, ℕ, ◌+◌, List, [], ◌∷◌, ◌++◌, length, refl, sym, ◌∙◌, ap, arith, cond}
+use Rattle.std.proofs.Common.{Option, None, Some, Bool, true, false, flat_map}
+use Rattle.std.specs.Prelude.{◌==◌, ◌&&◌}
 use Rattle.std.specs.List.{count_by}
-use Rattle.std.proofs.lemmas.Grind.{flat_map-append}
 use Rattle.std.proofs.lemmas.List.{length-append, map-append}
 use Rattle.std.proofs.lemmas.List.Sums.{sum_by-append, sum_by-cons}
 use Rattle.trace_values.specs.declared.cell.Cell.{Cell}
-use Rattle.trace_values.specs.declared.fault.Reason.{Reason}
-use Rattle.trace_values.specs.Placed.{Place, Placed}
+use Rattle.trace_values.specs.Placed.{Place, placed}
 use Rattle.trace_values.specs.Stream.{Said, Notice, Kept}
-use Rattle.frame_grammar.specs.Port.{PortItem}
-use Rattle.frame_grammar.specs.Reading.{is_source}
-use Rattle.deformatter.specs.Rising.{BytesRise}
 use Rattle.source_counts.specs.Counts.{items_of}
 use Rattle.source_events.specs.declared.event.Event.{Event}
 use Rattle.source_events.specs.declared.event.What.{What}
@@ -23,53 +18,18 @@ use Rattle.source_events.specs.declared.plan.SourceKind.{SourceKind}
 use Rattle.source_events.specs.Merge.{is_of, part, told}
 use Rattle.source_events.specs.Plan.{kind_of}
 use Rattle.source_events.specs.Report.{lifted, raw_events, raws, triggers, what_of}
-use Rattle.source_events.specs.Runs.{all_runs, bytes_of, id_of, last_at, runs_of}
+use Rattle.source_events.specs.Runs.{bytes_of, id_of, last_at}
+use Rattle.source_events.proofs.Captures.{capture_rises}
 use Rattle.source_events.proofs.ItemCounts.{frames_given}
 use Rattle.stretch_readings.specs.declared.heard.Heard.{Heard}
-use Rattle.stretch_readings.specs.declared.heard.Heard.TheVariants.{Read, Broken, Guessed, Misread}
+use Rattle.stretch_readings.specs.declared.heard.Heard.TheVariants.{Read}
 use Rattle.recovery_report.specs.Counts.{is_item, items_in}
-use Rattle.recovery_report.specs.Port.{PortStretch, all_of, frames_of, recovered}
-use Rattle.recovery_report.specs.Report.{Run, break_of, events_by, events_of, lock_of, parts_in, parts_of, report, run_in}
-use Rattle.recovery_report.specs.Report.{said_in}
+use Rattle.recovery_report.specs.Port.{all_of, frames_of, recovered}
+use Rattle.recovery_report.specs.Report.{events_by, parts_in, report, run_in, said_in}
 use Rattle.recovery_report.proofs.Parting.{parts_in_order}
 use Rattle.recovery_laws.proofs.Ordering.{merged}
 use Rattle.recovery_engine.specs.Heard.{is_packet, packets_in}
-use Rattle.recovery_engine.proofs.PortCounts.{recovered_runs}
-
--- the runs of the parts are those of the frames
-no_lock : (h : Bool) (items : List (PortItem × Place)) (n : ℕ) →
-    flat_map run_in (if h then lock_of items n else []) ≡ []
-no_lock false items n = refl
-no_lock true [] n = refl
-no_lock true (item ∷ items) n = refl
-
-no_break : (o : Option (Place × Reason)) → flat_map run_in (break_of o) ≡ []
-no_break None = refl
-no_break (Some f) = refl
-
-run_back : (runs : List (List Cell)) → flat_map run_in (map Run runs) ≡ runs
-run_back [] = refl
-run_back (run ∷ runs) = ap (λ l. run ∷ l) (run_back runs)
-
-stretch_runs : (s : PortStretch) → flat_map run_in (parts_of s) ≡ all_runs s.reading.frames
-stretch_runs s =
-    let lock = if s.hunts then lock_of s.items.items s.skipped else [] in
-    let runs = map Run (all_runs s.reading.frames) in
-    flat_map-append run_in lock (runs ++ break_of s.reading.fault)
-    ∙ ap (λ l. l ++ flat_map run_in (runs ++ break_of s.reading.fault)) (no_lock s.hunts s.items.items s.skipped)
-    ∙ flat_map-append run_in runs (break_of s.reading.fault)
-    ∙ ap (λ l. flat_map run_in runs ++ l) (no_break s.reading.fault) ∙ append-nil (flat_map run_in runs)
-    ∙ run_back (all_runs s.reading.frames)
-
-runs_are : (ss : List PortStretch) →
-    flat_map run_in (flat_map parts_of ss) ≡ all_runs (flat_map (λ (s : PortStretch). s.reading.frames) ss)
-runs_are [] = refl
-runs_are (s ∷ ss) =
-    let frames : List (List Cell) = flat_map (λ (t : PortStretch). t.reading.frames) ss in
-    flat_map-append run_in (parts_of s) (flat_map parts_of ss)
-    ∙ ap (λ l. l ++ flat_map run_in (flat_map parts_of ss)) (stretch_runs s)
-    ∙ ap (λ l. all_runs s.reading.frames ++ l) (runs_are ss)
-    ∙ sym (flat_map-append (λ (frame : List Cell). runs_of frame) s.reading.frames frames)
+use Rattle.recovery_engine.proofs.PortCounts.{recovered_runs, runs_are}
 
 -- how many of these events are so
 abbrev count : (What (Heard Packet) → Bool) → List (Event (Heard Packet)) → ℕ
@@ -96,9 +56,7 @@ module _ (x : ℕ) where
   same_what : (s : Said (Heard Packet)) → is_packet (what_of s) ≡ is_item (what_of s)
   same_what (Notice n) = refl
   same_what (Kept (Read packet)) = refl
-  same_what (Kept (Broken reason)) = refl
-  same_what (Kept (Guessed packet)) = refl
-  same_what (Kept (Misread reason)) = refl
+  same_what (Kept v) = refl
 
   packets_said : (said : List (Said (Heard Packet) × Place)) →
       count is_packet (told (Some x) (lifted said)) ≡ count is_item (told (Some x) (lifted said))
@@ -135,30 +93,33 @@ module _ (x : ℕ) where
   raw_items : (runs : List (List Cell)) → AreItems (raws x runs)
   raw_items [] = refl
   raw_items (run ∷ runs) =
-      items_append (cond (is_source x (id_of run)) (raw_events x run) []) (raws x runs) (by (is_source x (id_of run)))
-      (raw_items runs) where
+      items_append (cond (is_of (Some x) (id_of run)) (raw_events x run) []) (raws x runs)
+      (by (is_of (Some x) (id_of run))) (raw_items runs) where
         by : (t : Bool) → AreItems (cond t (raw_events x run) [])
         by true = run_items run
         by false = refl
 
-  module _ (plan : Plan) (n k : ℕ) (u : List Placed) (rise : BytesRise n k u) where
+  module _ (plan : Plan) (seen : List ℕ) where
+    abbrev es : List (Event (Heard Packet))
+    es = report plan (placed seen)
+
     own : (o : Option SourceKind) → kind_of plan x ≡ o →
-        part (Some x) (report plan u) ≡ told (Some x) (events_by plan o x (parts_in (recovered plan.frames u)))
+        part (Some x) es ≡ told (Some x) (events_by plan o x (parts_in (recovered plan.frames (placed seen))))
     own o e =
-        let parts = parts_in (recovered plan.frames u) in
-        (merged plan parts n (parts_in_order plan.frames u n k rise)).of_source x
+        let parts = parts_in (recovered plan.frames (placed seen)) in
+        (merged plan parts 0
+        (parts_in_order plan.frames (placed seen) 0 (length seen) (capture_rises seen))).of_source x
         ∙ ap (λ (p : Option SourceKind). told (Some x) (events_by plan p x parts)) e
 
-    pub packets_are : (kind : SourceKind) → kind_of plan x ≡ Some kind →
-        packets_in x (report plan u) ≡ items_in x (report plan u)
+    pub packets_are : (kind : SourceKind) → kind_of plan x ≡ Some kind → packets_in x es ≡ items_in x es
     packets_are kind e =
-        in_part is_packet (report plan u) ∙ ap (count is_packet) (own (Some kind) e)
-        ∙ packets_said (said_in false plan kind x (parts_in (recovered plan.frames u)))
-        ∙ sym (in_part is_item (report plan u) ∙ ap (count is_item) (own (Some kind) e))
+        in_part is_packet es ∙ ap (count is_packet) (own (Some kind) e)
+        ∙ packets_said (said_in false plan kind x (parts_in (recovered plan.frames (placed seen))))
+        ∙ sym (in_part is_item es ∙ ap (count is_item) (own (Some kind) e))
 
-    pub items_are : kind_of plan x ≡ None → items_of x (frames_of (recovered plan.frames u)) ≡ items_in x (report plan u)
+    pub items_are : kind_of plan x ≡ None → items_of x (frames_of (recovered plan.frames (placed seen))) ≡ items_in x es
     items_are e =
-        let r = recovered plan.frames u in
-        sym (in_part is_item (report plan u) ∙ ap (count is_item) (own None e) ∙ raw_items (flat_map run_in (parts_in r))
+        let r = recovered plan.frames (placed seen) in
+        sym (in_part is_item es ∙ ap (count is_item) (own None e) ∙ raw_items (flat_map run_in (parts_in r))
         ∙ ap (λ (runs : List (List Cell)). length (raws {V = Heard Packet} x runs)) (runs_are (all_of r))
-        ∙ frames_given (Heard Packet) x (frames_of r) (recovered_runs plan.frames u))
+        ∙ frames_given (Heard Packet) x (frames_of r) (recovered_runs plan.frames (placed seen)))

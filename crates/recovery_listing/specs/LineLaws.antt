@@ -39,7 +39,8 @@ near_append p before [] ys =
 near_append p before (x ∷ xs) ys =
     let line = near_line p before x (is_guess x.what) in
     ap (λ (l : List ℕ). line ++ l) (near_append p (before ++ x ∷ []) xs ys)
-    ∙ sym (append_assoc line (near_lines_after p (before ++ x ∷ []) xs) (near_lines_after p ((before ++ x ∷ []) ++ xs) ys))
+    ∙ sym (append_assoc line (near_lines_after p (before ++ x ∷ []) xs)
+    (near_lines_after p ((before ++ x ∷ []) ++ xs) ys))
     ∙ ap (λ (l : List (Event (Heard Packet))).
     (line ++ near_lines_after p (before ++ x ∷ []) xs) ++ near_lines_after p l ys) (append_assoc before (x ∷ []) xs)
 

@@ -42,7 +42,8 @@ module _ {R : Type 0} (own : (R × List ℕ) → List (Event Packet) → (R × L
   }
 
   pub gets_more : ((a b c : R × List ℕ) (es fs : List (Event Packet)) → own a es b → own b fs c → own a (es ++ fs) c) →
-      (a b c : Noting R × List ℕ) (es fs : List (Event (Heard Packet))) → NotingGets own a es b → NotingGets own b fs c →
+      (a b c : Noting R × List ℕ) (es fs : List (Event (Heard Packet))) → NotingGets own a es b →
+      NotingGets own b fs c →
       NotingGets own a (es ++ fs) c
   gets_more more a b c es fs g h =
       let source = a.0.source in

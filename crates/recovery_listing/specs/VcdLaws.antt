@@ -1,6 +1,6 @@
 -- How the account of `vcd` goes on: proofs that its `impl` cites.
 use Rattle.std.proofs.Common.{◌≡◌, ◌<◌, ℕ, List, [], ◌∷◌, ◌++◌, length, refl, sym, ◌∙◌, ap, subst, Bool, Option, arith}
-use Rattle.std.proofs.Common.{append_assoc, false, true}
+use Rattle.std.proofs.Common.{append_assoc, true}
 use Rattle.std.specs.Prelude.{◌||◌, if◌then◌else◌}
 use Rattle.itm_grammar.specs.declared.packet.ItmPacket.{ItmPacket}
 use Rattle.source_events.specs.declared.event.Event.{Event}

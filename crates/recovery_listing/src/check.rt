@@ -72,8 +72,8 @@ impl Account for Tally {
     ghost use Rattle.trace_stream.specs.Debt.{Paid};
     ghost use Rattle.recovery_listing.specs.Check.{HasCounted, IsAt, asked, gets};
     ghost use Rattle.recovery_listing.specs.CheckLaws.{goes_on, same};
-    ghost use Rattle.recovery_listing.specs.MeaningLaws.{check_lawful};
-    ghost use Rattle.recovery_listing.specs.Summary.{check_meaning};
+    ghost use Rattle.recovery_listing.specs.MeaningLaws.{end_lawful};
+    ghost use Rattle.recovery_listing.specs.Summary.{check_meaning, summary};
 
     type Asked = Plan;
 
@@ -91,7 +91,7 @@ impl Account for Tally {
 
     ghost meaning = { check_meaning };
 
-    ghost lawful = { check_lawful };
+    ghost lawful = { λ plan. end_lawful (summary plan) };
 
     ghost sound = { λ asked bytes h. h };
 

@@ -21,8 +21,8 @@ use trace_values::{ID_COUNT, SourceId};
 /// A source of which nothing is counted.
 const NONE: Counts = Counts { bytes: 0, items: 0 };
 
-/// How many bytes a source has, and how many items: its packets, or the runs of one that is not mapped. Notices of locks
-/// and faults are none.
+/// How many bytes a source has, and how many items: its packets, or the runs of one that is not mapped. Notices of
+/// locks and faults are none.
 fn counts_of(engine: &Recovery, heard: &HeardCounts, id: SourceId) -> Counts
     requires few { heard_of heard.now ≤ GREATEST_COUNT }
     ensures value { (seen : List ℕ) → HasTallied engine.now heard.now seen →

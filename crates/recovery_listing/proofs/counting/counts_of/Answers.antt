@@ -1,8 +1,7 @@
-use Rattle.std.proofs.Common.{◌≡◌, ◌∙◌, sym, ap, ℕ, ◌≤◌, arith, length}
+use Rattle.std.proofs.Common.{◌≡◌, ◌∙◌, sym, ap, ℕ, ◌≤◌, arith}
 use Rattle.std.proofs.lemmas.Bool.Decides.{nat_tests}
 use Rattle.trace_values.specs.Placed.{placed}
 use Rattle.source_counts.specs.declared.counts.Counts.{Counts}
-use Rattle.source_events.proofs.Captures.{capture_rises}
 use Rattle.recovery_report.specs.Report.{report}
 use Rattle.recovery_listing.specs.Counting.{plan_of}
 use Rattle.recovery_listing.proofs.Items.{items_are, packets_are}
@@ -25,7 +24,7 @@ returns-in-Some-clause-value c = λ seen h.
     (let m = c.min-bytes.ensures in grind (arith, nat_tests)) in
     same_counts _ _ _ _ (all ∙ ap (λ (s : Counts). s.bytes) sent)
     (c.packets.ensures.value (report plan u) h.heard
-    ∙ packets_are c.args.id plan 0 (length seen) u (capture_rises seen) _ (sym c.kind_of.ensures ∙ c.in-Some.is))
+    ∙ packets_are c.args.id plan seen _ (sym c.kind_of.ensures ∙ c.in-Some.is))
 
 pub returns-in-None-clause-value : goal.returns-in-None-clause-value
 returns-in-None-clause-value c = λ seen h.
@@ -43,4 +42,4 @@ returns-in-None-clause-value c = λ seen h.
     let all_items : c.min.result ≡ c.counts-sent.result.items = (let m = c.min.ensures in grind (arith, nat_tests)) in
     same_counts _ _ _ _ (all ∙ ap (λ (s : Counts). s.bytes) sent)
     (all_items ∙ ap (λ (s : Counts). s.items) sent
-    ∙ items_are c.args.id plan 0 (length seen) u (capture_rises seen) (sym c.kind_of.ensures ∙ c.in-None.is))
+    ∙ items_are c.args.id plan seen (sym c.kind_of.ensures ∙ c.in-None.is))

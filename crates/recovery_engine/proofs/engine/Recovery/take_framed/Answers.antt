@@ -41,9 +41,10 @@ returns g c =
     fronted g.V.Hearer.gets g.V.Hearer.room frame c.size.result c.args.piece.now self _ seen.here c.size.ensures
     seen.within seen.is p.plan p.guesses p.count p.adds
     (subst (λ (l : List RecoveringSlot). Takes g.V.Hearer.gets (runs (id_of self.port))
-    (l, (c.args.out.now, c.args.to.now))
-    (refill (length passed.slots.items) passed.slots.items c.take_whole.new.slots,
-    (c.take_whole.new.out, c.take_whole.new.to))) (ap (λ s. s.items) p.slots)
+    (l, (c.args.out.now, c.args.to.now)) (
+      refill (length passed.slots.items) passed.slots.items c.take_whole.new.slots,
+      (c.take_whole.new.out, c.take_whole.new.to),
+    )) (ap (λ s. s.items) p.slots)
     (took g.V.Hearer.gets (runs (id_of self.port)) passed.slots.items c.as_mut_slice.ensures.value
     c.take_whole.ensures.len (subst (λ (i : Option ℕ). Takes g.V.Hearer.gets (runs i)
     (c.as_mut_slice.result.now, (c.args.out.now, c.args.to.now))
