@@ -30,7 +30,8 @@ source_push (t ∷ slots) s x = by (t.id == x) (source_push slots s x) where
   by true e = refl
   by false e = e
 
-pub total_push : (slots : List RecoveringSlot) (s : RecoveringSlot) → total (slots ++ s ∷ []) ≡ total slots + total_of s.source
+pub total_push : (slots : List RecoveringSlot) (s : RecoveringSlot) →
+    total (slots ++ s ∷ []) ≡ total slots + total_of s.source
 total_push [] s = (let e : total_of s.source + 0 ≡ 0 + total_of s.source = omega arith in e)
 total_push (t ∷ slots) s = (let k = total_push slots s in omega (arith, k))
 
@@ -47,7 +48,8 @@ module _ (guesses : Bool) (plan : Plan) (kind : SourceKind) (s : MappedSource) (
       IsAdded guesses plan kind (take i ids) x o n →
       IsAdded guesses plan kind (take (i + 1) ids) x o (pushed n (get_or ids i d == x) s)
   added_push ids i d x None n l h =
-      subst (λ b. FreshIf guesses plan kind b (pushed n (get_or ids i d == x) s)) (sym (list_any_more (λ y. y == x) ids i d l))
+      subst (λ b. FreshIf guesses plan kind b (pushed n (get_or ids i d == x) s))
+      (sym (list_any_more (λ y. y == x) ids i d l))
       (fresh_push (list_any (λ y. y == x) (take i ids)) (get_or ids i d == x) n h)
   added_push ids i d x (Some t) n l h = subst (λ m. pushed m (get_or ids i d == x) s ≡ Some t) (sym h) refl
 

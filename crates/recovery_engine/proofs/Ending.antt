@@ -74,8 +74,8 @@ same_tail : (x : ℕ) (kind : SourceKind) (m n : PortMode) (s k t v : ℕ) → m
     let b : SourceTail = record { id = x; kind = kind; mode = n; skipped = k; tail = v } in a ≡ b)
 same_tail x kind m n s k t v e f g = cc
 
-pub source_ends : (guesses : Bool) (plan : Plan) (parts : List Part) (x : ℕ) (s : MappedSource) (kind : SourceKind) (m : PortMode)
-    (skipped tail : ℕ) → IsSource guesses plan parts x s → kind_of s ≡ kind →
+pub source_ends : (guesses : Bool) (plan : Plan) (parts : List Part) (x : ℕ) (s : MappedSource) (kind : SourceKind)
+    (m : PortMode) (skipped tail : ℕ) → IsSource guesses plan parts x s → kind_of s ≡ kind →
     (let r = stretches_of plan (kind_of s) x parts in
     m ≡ mode_by r.now.hunts (heard_by s r).locked → skipped ≡ (heard_by s r).skipped → tail ≡ (heard_by s r).held →
     (let a : SourceTail = record { id = x; kind = kind; mode = m; skipped = skipped; tail = tail } in
@@ -110,8 +110,8 @@ module _ (plan : Plan) (x : ℕ) (kind : SourceKind) (named : plans.kind_of plan
   there (Some s) None e = tt
   there (Some s) (Some t) e = refl
 
-  pub tail_is : (guesses : Bool) (parts : List Part) (o : Option MappedSource) (t : Option SourceTail) → EndsAs x kind o t →
-      StandsAt guesses plan parts x o → all_of t ≡ tail_by plan parts x (plans.kind_of plan x)
+  pub tail_is : (guesses : Bool) (parts : List Part) (o : Option MappedSource) (t : Option SourceTail) →
+      EndsAs x kind o t → StandsAt guesses plan parts x o → all_of t ≡ tail_by plan parts x (plans.kind_of plan x)
   tail_is guesses parts None t e k = (let q : None ≡ Some kind = sym k ∙ named in cc)
   tail_is guesses parts (Some s) t e k =
       let q : Some (kind_of s) ≡ Some kind = sym k.kind ∙ named in

@@ -168,8 +168,7 @@ report_grows guesses plan xs ys =
 -- of no bytes there is no event
 no_parts : (mode : FramesMode) → parts_in (recovered mode []) ≡ []
 no_parts Aligned = refl
-no_parts Hunt = refl
-no_parts Bare = refl
+no_parts x = refl
 
 pub nothing_first : (guesses : Bool) (plan : Plan) → report_with guesses plan (placed []) ≡ []
 nothing_first guesses plan = ap (report_from_with guesses plan []) (no_parts plan.frames)

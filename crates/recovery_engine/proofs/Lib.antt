@@ -8,3 +8,4 @@ pub mod Growing
 pub mod Owning
 pub mod Parts
 pub mod WholeFrames
+pub mod Gathering

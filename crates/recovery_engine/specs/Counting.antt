@@ -5,9 +5,9 @@ use Rattle.source_counts.specs.Kept as kept
 use Rattle.recovery_report.specs.Port.{PortStretches, frames_of, fulls_of, halves_of}
 use Rattle.recovery_engine.specs.declared.counts.PortTotals.{PortTotals}
 
--- the bytes of each source in the frames of all stretches, and the synchronisations
+-- what each source has in the frames of all stretches, and the synchronisations
 pub record HasCounted (counts : PortTotals) (r : PortStretches) : Type 0 where
-  pub frames : kept.HasBytes counts.frames (frames_of r)
+  pub frames : kept.Stands counts.frames (frames_of r)
   pub fulls : counts.fulls ≡ fulls_of r
   pub halves : counts.halves ≡ halves_of r
 

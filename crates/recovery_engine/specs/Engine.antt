@@ -23,8 +23,8 @@ abbrev pub count_of : Recovery → ℕ
 count_of e = e.count
 
 -- It has read these bytes, whose offsets rise and are before the next one: its port and its sources stand for what they
--- are in the recovering report, and it has counted what the port's stretches have. With no formatter all that is counted
--- is the bytes.
+-- are in the recovering report, and it has counted what the port's stretches have. With no formatter all that is
+-- counted is the bytes.
 pub record Stands (e : Recovery) (u : List Placed) : Type 0 where
   pub port : PortStands e.plan.frames e.port u
   pub sources : StandFor e.guesses e.plan (parts_in (recovered e.plan.frames u)) e.slots.items

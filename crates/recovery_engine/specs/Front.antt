@@ -1,14 +1,25 @@
 -- What a recovering engine takes of the front of a piece.
-use Rattle.std.specs.Prelude.{◌≡◌, ◌<◌, ◌≤◌, ℕ, ◌+◌, ◌*◌, List, ◌++◌, length, take}
+use Rattle.std.specs.Prelude.{◌≡◌, ◌≢◌, ◌<◌, ◌≤◌, ℕ, ◌+◌, ◌*◌, List, ◌++◌, length, map, take}
 use Rattle.trace_values.specs.Placed.{Placed, placed_from}
+use Rattle.trace_values.specs.declared.reading_modes.FramesMode.TheVariants.{Bare}
+use Rattle.deformatter.specs.Rising.{BytesRise}
+use Rattle.frame_grammar.specs.Frame.{cells}
 use Rattle.frame_grammar.specs.declared.frame.TheConstants.{FRAME_BYTES}
 use Rattle.frame_grammar.specs.declared.gather.PlacedFrame.{PlacedFrame}
-use Rattle.frame_runs.specs.Gathered.{IsGathered}
+use Rattle.frame_runs.specs.Gathered.{IsGathered, frame_places}
 use Rattle.source_events.specs.declared.event.Event.{Event}
 use Rattle.source_events.specs.declared.packet.Packet.{Packet}
+use Rattle.source_events.specs.Runs.{runs_of}
 use Rattle.stretch_readings.specs.declared.heard.Heard.{Heard}
-use Rattle.recovery_report.specs.Report.{report_with}
+use Rattle.recovering_machines.specs.Port as ports
+use Rattle.recovering_machines.specs.declared.port.RecoveringPort.{RecoveringPort}
+use Rattle.recovery_report.specs.Port.{recovered}
+use Rattle.recovery_report.specs.Report.{Part, Run, parts_in, report_with}
+use Rattle.recovery_engine.specs.Counting.{HasCounted}
 use Rattle.recovery_engine.specs.Engine.{Stands, count_of, guesses_of, plan_of}
+use Rattle.recovery_engine.specs.Heard.{AreUnread}
+use Rattle.recovery_engine.specs.Port.{PortStands}
+use Rattle.recovery_engine.specs.declared.counts.PortTotals.{PortTotals}
 use Rattle.recovery_engine.specs.declared.engine.Recovery.{Recovery}
 
 -- It took so many bytes of the piece, whose first is the next one, and stands for them after what it stood for. The
@@ -26,17 +37,27 @@ pub record TakesFront {S : Type 0} (gets : S → List (Event (Heard Packet)) →
       ≡ report_with (guesses_of old.0) (plan_of old.0) u ++ given)
   pub room : left old.1 ≤ left new.1 + 30 * taken
 
--- It took a whole frame, and stands for any bytes of which the frame is gathered, after what it stood for. The events
--- that the report grows by with them were given.
-pub record TakesGathered {S : Type 0} (gets : S → List (Event (Heard Packet)) → S → Type 0) (left : S → ℕ)
-    (frame : PlacedFrame) (old new : Recovery × S) : Type 0 where
-  pub plan : plan_of new.0 ≡ plan_of old.0
-  pub guesses : guesses_of new.0 ≡ guesses_of old.0
-  pub count : count_of new.0 ≡ count_of old.0 + (FRAME_BYTES + 2 * frame.halves)
-  pub list : (u : List Placed) (w : List ℕ) → Stands old.0 u → IsGathered frame.at w frame →
-      Stands new.0 (u ++ placed_from frame.at w)
-  pub given : (given : List (Event (Heard Packet))) × gets old.1 given new.1 × ((u : List Placed) (w : List ℕ) →
-      Stands old.0 u → IsGathered frame.at w frame →
-      report_with (guesses_of old.0) (plan_of old.0) (u ++ placed_from frame.at w)
-      ≡ report_with (guesses_of old.0) (plan_of old.0) u ++ given)
-  pub room : left old.1 ≤ left new.1 + 30
+-- It took so many bytes of the piece, as above, and none of the events that the report grows by is a packet or a fault.
+abbrev pub CountsFront : List ℕ → ℕ → Recovery → Recovery → Type 0
+CountsFront piece taken old new =
+    TakesFront {S = Unit {0}} (λ s given t. AreUnread given) (λ s. 0) piece taken (old, tt) (new, tt)
+
+-- After the bytes v an engine that stood for u has this port and these counts, and its parts grew by these.
+pub record Adds (old : Recovery) (port : RecoveringPort) (totals : PortTotals) (count : ℕ) (more : List Part)
+    (u v : List Placed) : Type 0 where
+  pub port_is : PortStands old.plan.frames port v
+  pub counted : old.plan.frames ≢ Bare → HasCounted totals (recovered old.plan.frames v)
+  pub count_is : count ≡ length v
+  pub rising : BytesRise 0 count v
+  pub parts : parts_in (recovered old.plan.frames v) ≡ parts_in (recovered old.plan.frames u) ++ more
+
+-- Its port passed over a whole frame, which is counted; its sources are as before.
+pub record PassesGathered (frame : PlacedFrame) (old new : Recovery) : Type 0 where
+  pub plan : plan_of new ≡ plan_of old
+  pub guesses : guesses_of new ≡ guesses_of old
+  pub slots : new.slots ≡ old.slots
+  pub count : count_of new ≡ count_of old + (FRAME_BYTES + 2 * frame.halves)
+  pub adds : (u : List Placed) (w : List ℕ) → Stands old u → IsGathered frame.at w frame →
+      Adds old new.port new.totals new.count
+      (map Run (runs_of (cells frame.bytes (frame_places frame) (ports.id_of old.port))))
+      u (u ++ placed_from frame.at w)

@@ -1,19 +1,33 @@
 -- What counters of events have counted.
-use Rattle.std.specs.Prelude.{◌≡◌, ◌≤◌, ℕ, ◌-◌, List, ◌++◌}
+use Rattle.std.specs.Prelude.{◌≡◌, ◌≤◌, ℕ, ◌-◌, List, ◌++◌, ◌&&◌, Bool, true, false, Some}
+use Rattle.std.specs.List.{count_by}
 use Rattle.trace_values.specs.declared.limits.TheConstants.{COUNT_ROOM}
 use Rattle.source_events.specs.declared.event.Event.{Event}
+use Rattle.source_events.specs.declared.event.What.{What}
+use Rattle.source_events.specs.declared.event.What.TheVariants.{Packet as Said}
 use Rattle.source_events.specs.declared.packet.Packet.{Packet}
+use Rattle.source_events.specs.Merge.{is_of}
 use Rattle.source_merge.specs.Counting.{number_of}
 use Rattle.stretch_readings.specs.declared.heard.Heard.{Heard}
-use Rattle.recovery_report.specs.Counts.{items_in, faults_in}
+use Rattle.stretch_readings.specs.declared.heard.Heard.TheVariants.{Read}
+use Rattle.recovery_report.specs.Counts.{faults_in}
 use Rattle.recovery_engine.specs.declared.heard_counts.HeardCounts.{HeardCounts}
 
--- the items of each source in these events, and the faults
+-- a packet, and no guess
+abbrev pub is_packet : What (Heard Packet) → Bool
+is_packet (Said (Read packet)) = true
+is_packet what = false
+
+-- how many packets of a source these events are
+abbrev pub packets_in : ℕ → List (Event (Heard Packet)) → ℕ
+packets_in x es = count_by (λ e. is_of (Some x) e.source && is_packet e.what) es
+
+-- the packets of each source in these events, and the faults
 pub record HasHeard (counts : HeardCounts) (es : List (Event (Heard Packet))) : Type 0 where
-  pub items : (id : ℕ) → id ≤ 126 → number_of counts.items id ≡ items_in id es
+  pub packets : (id : ℕ) → id ≤ 126 → number_of counts.packets id ≡ packets_in id es
   pub faults : counts.faults ≡ faults_in es
 
--- how many events it has heard
+-- how many of them it has counted
 abbrev pub heard_of : HeardCounts → ℕ
 heard_of counts = counts.events
 
@@ -24,3 +38,7 @@ room s = COUNT_ROOM - heard_of s.0
 -- whatever it had counted, it counted these events, too
 abbrev pub gets : HeardCounts × Unit {0} → List (Event (Heard Packet)) → HeardCounts × Unit {0} → Type 0
 gets old es new = (before : List (Event (Heard Packet))) → HasHeard old.0 before → HasHeard new.0 (before ++ es)
+
+-- counters stay as they are with these events: none is a packet or a fault
+abbrev pub AreUnread : List (Event (Heard Packet)) → Type 0
+AreUnread es = (counts : HeardCounts) → gets (counts, tt) es (counts, tt)

@@ -9,4 +9,3 @@ pub mod HeardLaws
 pub mod Ends
 pub mod Engine
 pub mod Front
-pub mod Counted

@@ -5,11 +5,11 @@ ghost use Rattle.trace_values.specs.declared.limits.TheConstants.{COUNT_ROOM};
 
 use deformatter::PortStep;
 use frame_grammar::frame::FRAME_BYTES;
-use source_counts::SourceCounts;
+use source_counts::{Counts, SourceCounts};
 use source_events::PortCounts;
 use trace_values::{Cell, SourceId};
 
-/// How many bytes each source has in the frames of all stretches, and how many synchronisations these have.
+/// What each source has in the frames of all stretches, and how many synchronisations these have.
 #[derive(Drop)]
 pub struct PortTotals {
     frames: SourceCounts,
@@ -21,7 +21,8 @@ impl PortTotals {
     ghost use Rattle.std.specs.Prelude.{[], ℕ, List};
     ghost use Rattle.frame_grammar.specs.Frame.{cells, id_after};
     ghost use Rattle.trace_values.specs.declared.reading_modes.FramesMode.{FramesMode};
-    ghost use Rattle.source_counts.specs.Counts.{bytes_of, unattributed_of};
+    ghost use Rattle.deformatter.specs.Runs.{HaveRuns};
+    ghost use Rattle.source_counts.specs.Counts.{bytes_of, items_of, unattributed_of};
     ghost use Rattle.recovery_report.specs.Counts.{CountsGrow};
     ghost use Rattle.recovery_report.specs.Port.{PortStretches, frames_of, fulls_of, halves_of, recovered};
     ghost use Rattle.recovery_engine.specs.Counting.{GrowsByFrame, HasCounted, counted_of};
@@ -42,8 +43,8 @@ impl PortTotals {
     pub fn add_step(&mut self, step: &PortStep, cells: &[Cell])
         requires size { length cells.now ≤ 15 }
         requires room { counted_of self.old + 16 ≤ COUNT_ROOM }
-        ensures counted { (old new : PortStretches) → CountsGrow old new step.now cells.now → HasCounted self.old old →
-            HasCounted self.new new }
+        ensures counted { (old new : PortStretches) → CountsGrow old new step.now cells.now → HaveRuns (frames_of new) →
+            HasCounted self.old old → HasCounted self.new new }
         ensures more { counted_of self.new ≤ counted_of self.old + 16 }
     {
         match step {
@@ -73,12 +74,14 @@ impl PortTotals {
         self.frames.add_frame_bytes(frame, before)
     }
 
-    /// How many bytes a source has.
-    pub fn bytes(&self, id: SourceId) -> u64
-        ensures value { (r : PortStretches) → HasCounted self.now r → result ≡ bytes_of id (frames_of r) }
-        ensures few { (r : PortStretches) → HasCounted self.now r → result ≤ counted_of self.now }
+    /// How many bytes a source has, and how many items where it is not mapped.
+    pub fn of(&self, id: SourceId) -> Counts
+        ensures value { (r : PortStretches) → HasCounted self.now r →
+            result ≡ record { bytes = bytes_of id (frames_of r); items = items_of id (frames_of r) } }
+        ensures bytes { (r : PortStretches) → HasCounted self.now r → result.bytes ≤ counted_of self.now }
+        ensures items { (r : PortStretches) → HasCounted self.now r → result.items ≤ counted_of self.now }
     {
-        self.frames.of(id).bytes
+        self.frames.of(id)
     }
 
     /// How many bytes of frames have no source.

@@ -1,6 +1,6 @@
 //! The reading of a capture that goes on after each fault.
 
-ghost use Rattle.std.specs.Prelude.{◌≡◌, ◌+◌, ◌*◌, ◌<◌, ◌≤◌, length, take};
+ghost use Rattle.std.specs.Prelude.{◌≡◌, ◌+◌, ◌*◌, ◌<◌, ◌≤◌, length, take, IfSome};
 ghost use Rattle.recovering_machines.specs.Port.{total_of};
 ghost use Rattle.recovery_engine.specs.Counting.{counted_of};
 ghost use Rattle.recovery_engine.specs.Slots.{total};
@@ -15,7 +15,8 @@ use arrayvec::ArrayVec;
 use frame_grammar::gather::PlacedFrame;
 use frame_runs::place_frame;
 use recovering_machines::{Hearer, RecoveringPort};
-use source_events::{Plan, PortCounts, Tails};
+use source_counts::Counts;
+use source_events::{Plan, PortCounts, SourceKind, Tails};
 use source_machine::AHEAD;
 use source_merge::PieceRun;
 use trace_values::{Cell, FramesMode, SourceId};
@@ -62,18 +63,20 @@ pub struct Recovery {
 }
 
 impl Recovery {
-    ghost use Rattle.std.specs.Prelude.{◌≢◌, [], List};
+    ghost use Rattle.std.specs.Prelude.{◌≢◌, ◌==◌, [], List, None, true, if◌then◌else◌};
     ghost use Rattle.trace_values.specs.declared.reading_modes.FramesMode.TheVariants.{Bare};
     ghost use Rattle.trace_values.specs.Placed.{Placed};
     ghost use Rattle.frame_grammar.specs.declared.frame.TheConstants.{FRAME_BYTES};
+    ghost use Rattle.frame_runs.specs.Gathered.{IsGathered};
     ghost use Rattle.recovering_machines.specs.Port.{IsBetween};
-    ghost use Rattle.source_counts.specs.Counts.{bytes_of, unattributed_of};
+    ghost use Rattle.source_counts.specs.Counts.{bytes_of, items_of, unattributed_of};
+    ghost use Rattle.source_events.specs.Plan as plans;
     ghost use Rattle.source_merge.specs.Piece.{bytes_in};
     ghost use Rattle.recovery_report.specs.Counts.{port_counts_of};
     ghost use Rattle.recovery_report.specs.Port.{frames_of, recovered};
     ghost use Rattle.recovery_report.specs.Report.{tails_of};
     ghost use Rattle.recovery_engine.specs.Engine.{Stands, count_of, guesses_of, plan_of};
-    ghost use Rattle.recovery_engine.specs.Front.{TakesFront, TakesGathered};
+    ghost use Rattle.recovery_engine.specs.Front.{CountsFront, PassesGathered, TakesFront};
 
     /// An engine before the first byte.
     pub fn new(plan: Plan, guesses: bool) -> Recovery
@@ -99,8 +102,8 @@ impl Recovery {
     }
 
     /// Takes bytes from the front of a piece, which comes next, and gives the events that the recovering report grows
-    /// by: a whole frame, or else bytes up to the first one that ends a frame or a synchronisation, or is a fault, or to
-    /// the piece's end. With no formatter it takes bytes for whose events there is room.
+    /// by: a whole frame, or else bytes up to the first one that ends a frame or a synchronisation, or is a fault, or
+    /// to the piece's end. With no formatter it takes bytes for whose events there is room.
     ///
     /// The piece has a byte, and there is room for 30 events.
     pub fn take<V: Hearer>(&mut self, piece: &[u8], out: &mut V, to: &mut V::To) -> usize
@@ -111,27 +114,18 @@ impl Recovery {
             (self.old, (out.old, to.old)) (self.new, (out.new, to.new)) }
     {
         match self.plan.frames {
-            FramesMode::Bare => self.take_bare(piece, out, to),
+            FramesMode::Bare => {
+                if piece.len() > END_ROOM {
+                    self.take_long(piece, out, to)
+                } else {
+                    self.take_short(piece, out, to)
+                }
+            }
             FramesMode::Hunt | FramesMode::Aligned => self.take_framed(piece, out, to),
         }
     }
 
-    /// Takes bytes of a capture with no formatter.
-    fn take_bare<V: Hearer>(&mut self, piece: &[u8], out: &mut V, to: &mut V::To) -> usize
-        requires bare { self.old.plan.frames ≡ Bare }
-        requires some { 0 < length piece.now }
-        requires limit { count_of self.old + length piece.now ≤ GREATEST_OFFSET + 1 }
-        requires room { 30 ≤ V.room (out.old, to.old) }
-        ensures { TakesFront V.gets V.room piece.now result
-            (self.old, (out.old, to.old)) (self.new, (out.new, to.new)) }
-    {
-        if piece.len() > END_ROOM {
-            return self.take_long(piece, out, to);
-        }
-        self.take_short(piece, out, to)
-    }
-
-    /// Takes bytes of a long piece where they are.
+    /// Takes bytes of a long piece of a capture with no formatter, where they are.
     #[inline(always)]
     fn take_long<V: Hearer>(&mut self, piece: &[u8], out: &mut V, to: &mut V::To) -> usize
         requires bare { self.old.plan.frames ≡ Bare }
@@ -150,7 +144,7 @@ impl Recovery {
         self.take_piece(&run, out, to)
     }
 
-    /// Takes bytes of a short piece, which are copied.
+    /// Takes bytes of a short piece of a capture with no formatter, which are copied.
     #[inline(never)]
     fn take_short<V: Hearer>(&mut self, piece: &[u8], out: &mut V, to: &mut V::To) -> usize
         requires bare { self.old.plan.frames ≡ Bare }
@@ -197,30 +191,69 @@ impl Recovery {
         ensures { TakesFront V.gets V.room piece.now result
             (self.old, (out.old, to.old)) (self.new, (out.new, to.new)) }
     {
-        if self.port.is_between() {
-            if let Some(frame) = place_frame(self.count, piece) {
-                self.take_gathered(&frame, out, to);
-                return frame.size();
-            }
-        }
-        self.take_step(piece, out, to)
+        let Some(frame) = self.frame_at(piece) else {
+            return self.take_step(piece, out, to);
+        };
+        let before = self.port.id();
+        self.pass_gathered(&frame);
+        take_whole(self.slots.as_mut_slice(), &frame, &before, out, to);
+        frame.size()
     }
 
-    /// Takes a whole frame.
-    fn take_gathered<V: Hearer>(&mut self, frame: &PlacedFrame, out: &mut V, to: &mut V::To)
+    /// The whole frame that a piece begins with, which comes next, where the port is between two frames.
+    #[inline(always)]
+    fn frame_at(&self, piece: &[u8]) -> Option<PlacedFrame>
+        requires limit { count_of self.now + length piece.now ≤ GREATEST_OFFSET + 1 }
+        ensures between { IfSome result (λ frame. (self.now.plan.frames ≢ Bare) × IsBetween self.now.port) }
+        ensures within { IfSome result (λ frame. FRAME_BYTES + 2 * frame.halves ≤ length piece.now) }
+        ensures here { IfSome result (λ frame. frame.at ≡ count_of self.now) }
+        ensures is { IfSome result (λ frame.
+            IsGathered frame.at (take (FRAME_BYTES + 2 * frame.halves) piece.now) frame) }
+    {
+        match self.plan.frames {
+            FramesMode::Bare => None,
+            FramesMode::Hunt | FramesMode::Aligned => {
+                if self.port.is_between() {
+                    place_frame(self.count, piece)
+                } else {
+                    None
+                }
+            }
+        }
+    }
+
+    /// Counts a whole frame, over which the port passes. Its runs are not taken.
+    #[inline(always)]
+    fn pass_gathered(&mut self, frame: &PlacedFrame)
         requires framed { self.old.plan.frames ≢ Bare }
         requires between { IsBetween self.old.port }
         requires limit { count_of self.old + (FRAME_BYTES + 2 * frame.now.halves) ≤ GREATEST_OFFSET + 1 }
         requires here { frame.now.at ≡ count_of self.old }
-        requires room { 30 ≤ V.room (out.old, to.old) }
-        ensures { TakesGathered V.gets V.room frame.now
-            (self.old, (out.old, to.old)) (self.new, (out.new, to.new)) }
+        ensures { PassesGathered frame.now self.old self.new }
     {
         let before = self.port.id();
-        take_whole(self.slots.as_mut_slice(), frame, &before, out, to);
         let after = self.totals.add_frame(&frame.bytes, frame.halves, before);
         self.port.pass_frame(after);
         self.count += frame.size() as u64;
+    }
+
+    /// Where no source is mapped: takes the whole frame that a piece begins with, which comes next, and answers how
+    /// many bytes that is. It leaves what `take` does; the frame's events, none of which is a packet or a fault, are
+    /// not made. None says nothing of the bytes, and takes none.
+    #[inline]
+    pub fn count_frame(&mut self, piece: &[u8]) -> Option<usize>
+        requires limit { count_of self.old + length piece.now ≤ GREATEST_OFFSET + 1 }
+        ensures none { result ≡ None → self.new ≡ self.old }
+        ensures counts { IfSome result (λ n. CountsFront piece.now n self.old self.new) }
+    {
+        if !self.maps_none() {
+            return None;
+        }
+        let Some(frame) = self.frame_at(piece) else {
+            return None;
+        };
+        self.pass_gathered(&frame);
+        Some(frame.size())
     }
 
     /// Takes bytes of a capture in frames up to the first one that ends a frame or a synchronisation, or is a fault, or
@@ -243,6 +276,14 @@ impl Recovery {
         taken.bytes
     }
 
+    /// No source is mapped.
+    #[inline(always)]
+    fn maps_none(&self) -> bool
+        ensures { result ≡ true → self.now.slots.items ≡ [] }
+    {
+        self.slots.is_empty()
+    }
+
     /// The offset of the next byte: how many were fed.
     pub fn next(&self) -> u64
         ensures count { result ≡ count_of self.now }
@@ -251,16 +292,38 @@ impl Recovery {
         self.count
     }
 
-    /// How many bytes a source has in the frames of all stretches.
-    pub fn bytes(&self, id: SourceId) -> u64
+    /// What kind a source is of, if it is mapped.
+    pub fn kind_of(&self, id: SourceId) -> Option<SourceKind>
+        ensures { result ≡ plans.kind_of (plan_of self.now) id }
+    {
+        self.plan.kind_of(id)
+    }
+
+    /// How many bytes a source has in the frames of all stretches, and how many items where it is not mapped.
+    pub fn counts(&self, id: SourceId) -> Counts
         ensures value { (u : List Placed) → Stands self.now u →
-            result ≡ bytes_of id (frames_of (recovered (plan_of self.now).frames u)) }
-        ensures few { (u : List Placed) → Stands self.now u → result ≤ 16 * count_of self.now }
+            let frames = frames_of (recovered (plan_of self.now).frames u) in
+            result ≡ record { bytes = bytes_of id frames; items = items_of id frames } }
+        ensures few { (u : List Placed) → Stands self.now u →
+            (result.bytes ≤ 16 * count_of self.now) × (result.items ≤ 16 * count_of self.now) }
     {
         match self.plan.frames {
-            FramesMode::Bare => { if id == bare_source() { self.count } else { 0 } }
-            FramesMode::Hunt | FramesMode::Aligned => self.totals.bytes(id),
+            FramesMode::Bare => {
+                let bytes = self.bare_bytes(id);
+                Counts {
+                    bytes,
+                    items: bytes,
+                }
+            }
+            FramesMode::Hunt | FramesMode::Aligned => self.totals.of(id),
         }
+    }
+
+    /// How many bytes a source has where there is no formatter, each of which is an item.
+    fn bare_bytes(&self, id: SourceId) -> u64
+        ensures { result ≡ (if 1 == id then count_of self.now else 0) }
+    {
+        if id == bare_source() { self.count } else { 0 }
     }
 
     /// How many bytes of frames have no source.

@@ -13,14 +13,15 @@ use source_merge::PerSource;
 use stretch_readings::Heard;
 use trace_values::{COUNT_ROOM, SourceId};
 
-/// Takes events, and counts the items of each source, and the faults. Notices of locks are neither.
-#[derive(Debug, Drop)]
+/// Takes events, and counts the packets of each source, and the faults. Notices of locks and guesses are neither, and
+/// what a source sends that is not mapped is counted by the engine.
+#[derive(Drop)]
 pub struct HeardCounts {
-    items: PerSource,
+    packets: PerSource,
     faults: u64,
-    /// How many events came, notices too.
+    /// How many packets and faults came.
     events: u64,
-    ghost few: { total_of items + faults ≤ events },
+    ghost few: { total_of packets + faults ≤ events },
     ghost limit: { events ≤ COUNT_ROOM },
 }
 
@@ -29,9 +30,9 @@ impl HeardCounts {
     ghost use Rattle.source_events.specs.declared.event.Event.{Event};
     ghost use Rattle.source_events.specs.declared.packet.Packet.{Packet};
     ghost use Rattle.stretch_readings.specs.declared.heard.Heard.{Heard};
-    ghost use Rattle.recovery_report.specs.Counts.{faults_in, items_in};
+    ghost use Rattle.recovery_report.specs.Counts.{faults_in};
     ghost use Rattle.source_merge.specs.Counting.{number_of};
-    ghost use Rattle.recovery_engine.specs.Heard.{HasHeard, heard_of};
+    ghost use Rattle.recovery_engine.specs.Heard.{HasHeard, heard_of, packets_in};
 
     /// No event came yet.
     pub fn new() -> HeardCounts
@@ -39,18 +40,18 @@ impl HeardCounts {
         ensures none { heard_of result ≡ 0 }
     {
         HeardCounts {
-            items: PerSource::new(),
+            packets: PerSource::new(),
             faults: 0,
             events: 0,
         }
     }
 
-    /// How many items a source has.
-    pub fn items(&self, id: SourceId) -> u64
-        ensures value { (es : List (Event (Heard Packet))) → HasHeard self.now es → result ≡ items_in id es }
+    /// How many packets a source has.
+    pub fn packets(&self, id: SourceId) -> u64
+        ensures value { (es : List (Event (Heard Packet))) → HasHeard self.now es → result ≡ packets_in id es }
         ensures few { result ≤ heard_of self.now }
     {
-        self.items.of(id)
+        self.packets.of(id)
     }
 
     /// How many faults the port and all sources have.
@@ -60,25 +61,25 @@ impl HeardCounts {
         self.faults
     }
 
-    /// Counts an event that is an item of a source; one of the port is none.
+    /// Counts an event that is a packet of a source; one of the port is none.
     #[inline(always)]
-    fn add_item(&mut self, source: Option<SourceId>)
+    fn add_packet(&mut self, source: Option<SourceId>)
         requires room { heard_of self.old < COUNT_ROOM }
-        ensures items { (x : ℕ) → number_of self.new.items x ≡
-            number_of self.old.items x + (if is_of (Some x) source then 1 else 0) }
+        ensures packets { (x : ℕ) → number_of self.new.packets x ≡
+            number_of self.old.packets x + (if is_of (Some x) source then 1 else 0) }
         ensures faults { self.new.faults ≡ self.old.faults }
         ensures more { heard_of self.new ≤ heard_of self.old + 1 }
     {
         self.events += 1;
         if let Some(id) = source {
-            self.items.add(id, 1);
+            self.packets.add(id, 1);
         }
     }
 
     /// Counts an event that is a fault.
     fn add_fault(&mut self)
         requires room { heard_of self.old < COUNT_ROOM }
-        ensures items { (x : ℕ) → number_of self.new.items x ≡ number_of self.old.items x }
+        ensures packets { (x : ℕ) → number_of self.new.packets x ≡ number_of self.old.packets x }
         ensures faults { self.new.faults ≡ self.old.faults + 1 }
         ensures more { heard_of self.new ≤ heard_of self.old + 1 }
     {
@@ -106,12 +107,10 @@ impl Hearer for HeardCounts {
 
     fn hear(&mut self, _to: &mut (), event: Event<Heard<Packet>>) {
         match event.what {
-            What::Locked(_) | What::Packet(Heard::Guessed(_)) | What::Packet(Heard::Misread(_)) =>
-                self.events += 1,
+            What::Packet(Heard::Read(_)) => self.add_packet(event.source),
             What::Packet(Heard::Broken(_)) => self.add_fault(),
-            What::Packet(Heard::Read(_)) | What::Raw(_) | What::Trigger(_) => {
-                self.add_item(event.source);
-            }
+            What::Packet(Heard::Guessed(_)) | What::Packet(Heard::Misread(_)) => {}
+            What::Locked(_) | What::Raw(_) | What::Trigger(_) => {}
         }
     }
 
@@ -127,16 +126,12 @@ impl Hearer for HeardCounts {
 
     #[inline(always)]
     fn hear_told(&mut self, _to: &mut (), _at: u64, _half: u8, source: SourceId, _told: Told) {
-        self.add_item(Some(source));
+        self.add_packet(Some(source));
     }
 
     #[inline(always)]
-    fn hear_raw(&mut self, _to: &mut (), _at: u64, source: SourceId, _bytes: &[u8]) {
-        self.add_item(Some(source));
-    }
+    fn hear_raw(&mut self, _to: &mut (), _at: u64, _source: SourceId, _bytes: &[u8]) {}
 
     #[inline(always)]
-    fn hear_trigger(&mut self, _to: &mut (), _at: u64, source: SourceId, _byte: u8) {
-        self.add_item(Some(source));
-    }
+    fn hear_trigger(&mut self, _to: &mut (), _at: u64, _source: SourceId, _byte: u8) {}
 }

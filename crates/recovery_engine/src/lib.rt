@@ -2,7 +2,6 @@
 #![tactic(auto)]
 
 mod bare;
-mod counting;
 mod counts;
 mod ends;
 mod engine;
@@ -10,6 +9,5 @@ mod heard_counts;
 mod router;
 mod slot;
 
-pub use counting::CountingRecovery;
 pub use engine::{GREATEST_OFFSET, Recovery};
 pub use heard_counts::HeardCounts;

@@ -1,7 +1,7 @@
 -- The listing with guesses is, without the lines of guesses, the listing; and these lines alone end in the mark.
 use Rattle.std.proofs.Common.{◌≡◌, ℕ, ◌-◌, List, [], ◌∷◌, ◌++◌, length, take, refl, sym, ◌∙◌, ap, append-nil}
-use Rattle.std.proofs.Common.{append_assoc, Bool, true, false, cond}
-use Rattle.std.specs.Prelude.{filter, not, ◌&&◌, Result, Ok, Err}
+use Rattle.std.proofs.Common.{Bool, true, false, cond}
+use Rattle.std.specs.Prelude.{not, ◌&&◌, Result, Ok, Err}
 use Rattle.std.specs.List.{All}
 use Rattle.std.proofs.lemmas.List.Elements.{All-nil, All-cons, All-append}
 use Rattle.trace_values.specs.declared.fault.Reason.{Reason}

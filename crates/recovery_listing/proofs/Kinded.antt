@@ -1,5 +1,5 @@
 -- What counts the items of a recovering report by their words makes of one event.
-use Rattle.std.proofs.Common.{◌≡◌, List, [], ◌∷◌, ◌++◌, sym, ◌∙◌, ap, subst, refl, append-nil, ℕ, Option, None, Some}
+use Rattle.std.proofs.Common.{◌≡◌, List, [], ◌∷◌, ◌++◌, sym, ◌∙◌, ap, subst, refl, append-nil, ℕ, None, Some}
 use Rattle.std.specs.Prelude.{Result, Ok, Err, zero, suc}
 use Rattle.trace_values.specs.declared.fault.Reason.{Reason}
 use Rattle.source_events.specs.declared.event.Event.{Event}
@@ -7,7 +7,7 @@ use Rattle.source_events.specs.declared.event.What.{What}
 use Rattle.source_events.specs.declared.packet.Packet.{Packet}
 use Rattle.stretch_readings.specs.declared.heard.Heard.{Heard}
 use Rattle.recovering_machines.specs.Hearing.{as_event, as_strict}
-use Rattle.trace_stream.specs.Debt.{Debt, Paid, owing}
+use Rattle.trace_stream.specs.Debt.{Paid, owing}
 use Rattle.capture_actions.specs.KindCounts.{HasCounted}
 use Rattle.capture_actions.specs.Words.{word_of}
 use Rattle.capture_actions.specs.declared.item_word.ItemWord.{ItemWord}
@@ -52,7 +52,8 @@ counted_other kinds e before h none pass = by (as_strict e.what) refl where
 -- an event of the strict report that is one of this
 pub counted_told : (old new : KindCounts) (e : Event (Heard Packet)) (what : What Packet) → as_strict e.what ≡ Ok what →
     ((es : List (Event Packet)) → HasCounted old es → HasCounted new (es ++ as_event e what ∷ [])) →
-    (before : List (Event (Heard Packet))) → HasCounted old (seen_in before) → HasCounted new (seen_in (before ++ e ∷ []))
+    (before : List (Event (Heard Packet))) → HasCounted old (seen_in before) →
+    HasCounted new (seen_in (before ++ e ∷ []))
 counted_told old new e what q add before h =
     subst (λ (l : List (Event Packet)). HasCounted new l) (sym (here old new e before h (Ok what) q))
     (add (seen_in before) h)

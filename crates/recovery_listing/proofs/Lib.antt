@@ -7,3 +7,4 @@ pub mod Unguessed
 pub mod Plain
 pub mod Noted
 pub mod Kinded
+pub mod Items

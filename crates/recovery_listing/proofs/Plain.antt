@@ -9,6 +9,7 @@ use Rattle.std.specs.Cmp.Lexicographic.{pointwise}
 use Rattle.std.specs.List.{list_all}
 use Rattle.std.specs.Fmt.{digits, digits_onto, digit_glyph}
 use Rattle.std.specs.Int.{to_be_bytes, w8, w16, w32}
+use Rattle.std.proofs.lemmas.Bool.{and_parts}
 use Rattle.std.proofs.lemmas.Bool.{ltb-true, ltb-false}
 use Rattle.std.proofs.lemmas.Bool.Decides.{nat_tests}
 use Rattle.std.proofs.lemmas.List.{drop_at, get_or_past}
@@ -18,17 +19,17 @@ use Rattle.itm_grammar.specs.declared.packet.ItmPacket.{ItmPacket}
 use Rattle.itm_grammar.specs.declared.packet.ItmPacket.TheVariants.{Sync, Overflow, Software, Hardware, Local}
 use Rattle.itm_grammar.specs.declared.packet.ItmPacket.TheVariants.{GlobalFirst, GlobalSecond, Extension}
 use Rattle.itm_grammar.specs.declared.packet.Lateness.{Lateness}
-use Rattle.itm_grammar.specs.declared.packet.Lateness.TheVariants.{Exact, StampLate, PacketLate, BothLate}
+use Rattle.itm_grammar.specs.declared.packet.Lateness.TheVariants.{Exact}
 use Rattle.itm_grammar.specs.declared.packet.Size.{Size}
 use Rattle.itm_grammar.specs.declared.packet.Size.TheVariants.{One, Two, Four}
 use Rattle.dwt_packets.specs.declared.item.Change.{Change}
-use Rattle.dwt_packets.specs.declared.item.Change.TheVariants.{Enter, Exit, Return}
+use Rattle.dwt_packets.specs.declared.item.Change.TheVariants.{Enter}
 use Rattle.dwt_packets.specs.declared.item.DwtItem.{DwtItem}
 use Rattle.dwt_packets.specs.declared.item.DwtItem.TheVariants.{Counters, Exception, Sample, Asleep, MatchPc}
 use Rattle.dwt_packets.specs.declared.item.DwtItem.TheVariants.{MatchAddress, Read, Written, Other}
 use Rattle.dwt_packets.specs.Table.{name}
 use Rattle.stp_grammar.specs.declared.packet.Width.{Width}
-use Rattle.stp_grammar.specs.declared.packet.Width.TheVariants.{Four as FourBits, Eight, Sixteen, ThirtyTwo, SixtyFour}
+use Rattle.stp_grammar.specs.declared.packet.Width.TheVariants.{Four as FourBits}
 use Rattle.stp_grammar.specs.declared.item.Place.{Place as StpPlace}
 use Rattle.stp_grammar.specs.declared.item.Stamp.{Stamp}
 use Rattle.stp_grammar.specs.declared.item.Stamp.TheVariants.{None as NoStamp, Natural, Gray, Raw as RawStamp}
@@ -38,9 +39,7 @@ use Rattle.stp_grammar.specs.declared.item.StpItem.TheVariants.{Trigger as StpTr
 use Rattle.stp_grammar.specs.Proper.{bits_of}
 use Rattle.trace_clock.specs.LastWord.{nibble_at, nibble_count}
 use Rattle.trace_values.specs.declared.fault.Reason.{Reason}
-use Rattle.trace_values.specs.declared.fault.Reason.TheVariants.{BadSync, SyncInFrame, ReservedHeader, BadItmSync}
-use Rattle.trace_values.specs.declared.fault.Reason.TheVariants.{LongStamp, ShortStamp, Unsupported, StampSize}
-use Rattle.trace_values.specs.declared.fault.Reason.TheVariants.{BadAsync}
+use Rattle.trace_values.specs.declared.fault.Reason.TheVariants.{BadSync}
 use Rattle.trace_values.specs.Faults.{name_of, number_of}
 use Rattle.trace_values.specs.Placed.{Place}
 use Rattle.source_events.specs.declared.event.Event.{Event}
@@ -53,7 +52,7 @@ use Rattle.trace_text.specs.FaultText.{fault_line}
 use Rattle.trace_text.specs.HardwareText.{change_text, hardware_text}
 use Rattle.trace_text.specs.HexDigits.{hex_digits}
 use Rattle.trace_text.specs.ItemText.{bits_text, flag_text, item_text, lateness_text, owner_text}
-use Rattle.trace_text.specs.LineText.{at_text, event_line, half_text, remark_text, source_text, what_text}
+use Rattle.trace_text.specs.LineText.{at_text, event_line, half_text, source_text, what_text}
 use Rattle.trace_text.specs.StpText.{datum_text, known_text, mark_text, place_text, stamp_text, stp_text, width_text}
 use Rattle.trace_text.specs.Values.{value_text}
 use Rattle.trace_text.specs.declared.remark.Remark.{Remark}
@@ -66,14 +65,6 @@ is_plain code = not (63 == code)
 
 record Plain (l : List ℕ) : Type 0 where
   is : list_all is_plain l ≡ true
-
-and_left : (a b : Bool) → (a && b) ≡ true → a ≡ true
-and_left true b e = refl
-and_left false b e = e
-
-and_right : (a b : Bool) → (a && b) ≡ true → b ≡ true
-and_right true b e = e
-and_right false b e = (let z : false ≡ true = e in cc)
 
 and_false : (a : Bool) → (a && false) ≡ false
 and_false true = refl
@@ -94,7 +85,7 @@ word a b e f = join a b (record { is = e }) f
 dropped : (k : ℕ) (l : List ℕ) → list_all is_plain l ≡ true → list_all is_plain (drop k l) ≡ true
 dropped zero l e = e
 dropped (suc k) [] e = refl
-dropped (suc k) (x ∷ l) e = dropped k l (and_right (is_plain x) (list_all is_plain l) e)
+dropped (suc k) (x ∷ l) e = dropped k l (and_parts (is_plain x) (list_all is_plain l) e).1
 
 -- the mark
 no_mark : (l : List ℕ) → list_all is_plain l ≡ true → pointwise (λ a b. a == b) (codes " ?\n") l ≡ false
@@ -102,7 +93,8 @@ no_mark [] e = refl
 no_mark (a ∷ []) e = and_false (32 == a)
 no_mark (a ∷ (b ∷ l)) e = by (63 == b) refl where
   plain : is_plain b ≡ true
-  plain = and_left (is_plain b) (list_all is_plain l) (and_right (is_plain a) (is_plain b && list_all is_plain l) e)
+  plain = (and_parts (is_plain b) (list_all is_plain l)
+      (and_parts (is_plain a) (is_plain b && list_all is_plain l) e).1).0
 
   by : (t : Bool) → (63 == b) ≡ t → pointwise (λ a b. a == b) (codes " ?\n") (a ∷ (b ∷ l)) ≡ false
   by true q = (let z : false ≡ true = sym (ap not q) ∙ plain in cc)
@@ -193,9 +185,7 @@ value_plain Four value = word (codes "u32 ") _ refl (hex (to_be_bytes w32 value)
 
 lateness_plain : (l : Lateness) → Plain (lateness_text l)
 lateness_plain Exact = record { is = refl }
-lateness_plain StampLate = record { is = refl }
-lateness_plain PacketLate = record { is = refl }
-lateness_plain BothLate = record { is = refl }
+lateness_plain l = record { is = refl }
 
 flag_plain : (b : Bool) → Plain (flag_text b)
 flag_plain true = record { is = refl }
@@ -211,8 +201,7 @@ owner_plain false = record { is = refl }
 
 change_plain : (c : Change) → Plain (change_text c)
 change_plain Enter = record { is = refl }
-change_plain Exit = record { is = refl }
-change_plain Return = record { is = refl }
+change_plain c = record { is = refl }
 
 -- `cmp C`, a word and a value
 comparator_plain : (c : ℕ) (tag rest : List ℕ) → Plain tag → Plain rest →
@@ -267,10 +256,7 @@ place_plain place = join (known_text place.master) _ (known_plain place.master)
 
 width_plain : (w : Width) → Plain (width_text w)
 width_plain FourBits = record { is = refl }
-width_plain Eight = record { is = refl }
-width_plain Sixteen = record { is = refl }
-width_plain ThirtyTwo = record { is = refl }
-width_plain SixtyFour = record { is = refl }
+width_plain w = record { is = refl }
 
 mark_plain : (b : Bool) → Plain (mark_text b)
 mark_plain true = record { is = refl }
@@ -327,14 +313,7 @@ source_plain (Some id) = number id
 
 name_plain : (reason : Reason) → Plain (name_of reason)
 name_plain BadSync = record { is = refl }
-name_plain SyncInFrame = record { is = refl }
-name_plain ReservedHeader = record { is = refl }
-name_plain BadItmSync = record { is = refl }
-name_plain LongStamp = record { is = refl }
-name_plain ShortStamp = record { is = refl }
-name_plain Unsupported = record { is = refl }
-name_plain StampSize = record { is = refl }
-name_plain BadAsync = record { is = refl }
+name_plain reason = record { is = refl }
 
 pub fault_unmarked : (stp : Bool) (f : Place × (Reason × Option ℕ)) → is_marked (fault_line stp f) ≡ false
 fault_unmarked stp f =

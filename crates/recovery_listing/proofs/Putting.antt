@@ -50,8 +50,8 @@ takes_guess clocked e (Raw bytes) g = absurd (cc)
 takes_guess clocked e (Trigger byte) g = absurd (cc)
 
 -- the clocks of guesses take an event that is sure
-module _ (new : SourceClocks) (x : Event Packet) (es : List (Event Packet)) (e : Event (Heard Packet)) (what : What Packet)
-    (same : x ≡ as_event e what) where
+module _ (new : SourceClocks) (x : Event Packet) (es : List (Event Packet)) (e : Event (Heard Packet))
+    (what : What Packet) (same : x ≡ as_event e what) where
   what_is : what ≡ x.what
   what_is = ap (λ (y : Event Packet). y.what) (sym same)
 
@@ -164,7 +164,8 @@ module _ (old new : RecoveringLister) (a b : List ℕ) (e : Event (Heard Packet)
         b ≡ a ++ fault_line (is_stp old.lister.plan e.source) (place_of e, (reason, e.source)) →
         ListerGets (old, a) (e ∷ []) (new, b)
     fault_put reason q is beside plan filter clocks line = record {
-      same = ap (λ (x : Plan). plan_by x new.lister.filter) plan ∙ ap (λ (f : Filter). plan_by old.lister.plan f) filter;
+      same = ap (λ (x : Plan). plan_by x new.lister.filter) plan
+          ∙ ap (λ (f : Filter). plan_by old.lister.plan f) filter;
       stands = λ before h. record {
         clocks = subst (λ (l : List (Event Packet)). AllStand new.lister.clocks l)
             (sym (clocked before (Err reason) q)) (clocks (clocked_from [] (sure_events before)) h.clocks);

@@ -127,8 +127,8 @@ module _ {A P : Type 0} (asked : A → GoingOn Plan → P) (account : A → Goin
     same = ap (asked new.account) on.same
         ∙ same (old.account, a) (new.account, b) on.given.0 (how_of old) on.given.1;
     fed = λ seen s.
-        let on_told = goes_on (old.account, a) (new.account, b) on.given.0 (how_of old) seen front on.given.1 some silent
-        (on.given.2 seen s.read) s.told in
+        let on_told = goes_on (old.account, a) (new.account, b) on.given.0 (how_of old) seen front on.given.1 some
+        silent (on.given.2 seen s.read) s.told in
         record {
           read = record {
             read = on.read seen s.read;

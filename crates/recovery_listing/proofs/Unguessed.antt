@@ -1,5 +1,6 @@
 -- Where no event is a guess the lines with guesses are those without.
 use Rattle.std.proofs.Common.{◌≡◌, ℕ, List, [], ◌∷◌, ◌++◌, length, refl, ◌∙◌, ap, Bool, false}
+use Rattle.std.proofs.lemmas.Bool.{or_parts}
 use Rattle.std.specs.List.{list_any}
 use Rattle.trace_values.specs.Placed.{placed}
 use Rattle.source_events.proofs.Captures.{capture_rises}
@@ -14,7 +15,6 @@ use Rattle.capture_actions.specs.declared.list_plan.ListPlan.{ListPlan}
 use Rattle.recovery_listing.specs.LineLaws.{sure_push}
 use Rattle.recovery_listing.specs.Listing.{line_of, lines_after, listed}
 use Rattle.recovery_listing.specs.Near.{listed_with, near_line, near_lines_after}
-use Rattle.recovery_listing.proofs.Counted.{neither}
 
 abbrev Events : Type 0
 Events = List (Event (Heard Packet))
@@ -29,7 +29,7 @@ plain_lines : (p : ListPlan) (before es : Events) → sure_events before ≡ bef
     near_lines_after p before es ≡ lines_after p before es
 plain_lines p before [] s h = refl
 plain_lines p before (e ∷ es) s h =
-    let none = neither (is_guess e.what) (some_guess es) h in
+    let none = or_parts (is_guess e.what) (some_guess es) h in
     let next = before ++ e ∷ [] in
     ap (λ g. near_line p before e g ++ near_lines_after p next es) none.0
     ∙ ap (λ (l : Events). line_of p l e (as_strict e.what) ++ near_lines_after p next es) s

@@ -28,7 +28,8 @@ pub record Pages : Type 0 where
   pub text : List ℕ
   pub notes : List ℕ
 
--- An engine took these bytes after those that it had read, and the events that the report grows by with them were given.
+-- An engine took these bytes after those that it had read, and the events that the report grows by with them were
+-- given.
 pub record TakesOn {S : Type 0} (gets : S → List (Event (Heard Packet)) → S → Type 0) (front : List ℕ)
     (old new : Recovery × S) : Type 0 where
   pub same : read_by new.0 ≡ read_by old.0

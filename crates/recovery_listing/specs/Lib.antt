@@ -31,6 +31,6 @@ pub mod DumpLaws
 pub mod Vcd
 pub mod VcdLaws
 pub mod FaultLines
-pub mod Sure
+pub mod SureLaws
 pub mod Noting
 pub mod NotingLaws

@@ -12,18 +12,7 @@ use Rattle.recovering_machines.specs.Hearing.{as_strict, is_guess}
 use Rattle.recovery_report.specs.Report.{sure_events}
 use Rattle.capture_actions.specs.declared.list_plan.ListPlan.{ListPlan}
 use Rattle.recovery_listing.specs.Listing.{clocked_by, clocked_from, has_fault, is_err, seen_by, seen_in}
-use Rattle.recovery_listing.specs.Listing.{line_of, lines_after}
 use Rattle.recovery_listing.specs.Near.{guess_clocked_by, guess_clocked_from, near_line, near_lines_after}
-
-pub lines_append : (p : ListPlan) (before xs ys : List (Event (Heard Packet))) →
-    lines_after p before (xs ++ ys) ≡ lines_after p before xs ++ lines_after p (before ++ xs) ys
-lines_append p before [] ys = ap (λ (l : List (Event (Heard Packet))). lines_after p l ys) (sym (append-nil before))
-lines_append p before (x ∷ xs) ys =
-    let line = line_of p before x (as_strict x.what) in
-    ap (λ (l : List ℕ). line ++ l) (lines_append p (before ++ x ∷ []) xs ys)
-    ∙ sym (append_assoc line (lines_after p (before ++ x ∷ []) xs) (lines_after p ((before ++ x ∷ []) ++ xs) ys))
-    ∙ ap (λ (l : List (Event (Heard Packet))). (line ++ lines_after p (before ++ x ∷ []) xs) ++ lines_after p l ys)
-    (append_assoc before (x ∷ []) xs)
 
 pub clocked_append : (clocked : List (Event Packet)) (xs ys : List (Event (Heard Packet))) →
     clocked_from clocked (xs ++ ys) ≡ clocked_from (clocked_from clocked xs) ys
@@ -50,7 +39,8 @@ near_append p before [] ys =
 near_append p before (x ∷ xs) ys =
     let line = near_line p before x (is_guess x.what) in
     ap (λ (l : List ℕ). line ++ l) (near_append p (before ++ x ∷ []) xs ys)
-    ∙ sym (append_assoc line (near_lines_after p (before ++ x ∷ []) xs) (near_lines_after p ((before ++ x ∷ []) ++ xs) ys))
+    ∙ sym (append_assoc line (near_lines_after p (before ++ x ∷ []) xs)
+    (near_lines_after p ((before ++ x ∷ []) ++ xs) ys))
     ∙ ap (λ (l : List (Event (Heard Packet))).
     (line ++ near_lines_after p (before ++ x ∷ []) xs) ++ near_lines_after p l ys) (append_assoc before (x ∷ []) xs)
 

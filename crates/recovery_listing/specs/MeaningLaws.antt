@@ -1,16 +1,15 @@
 -- How what is written of a recovering report grows with the bytes.
-use Rattle.std.specs.Prelude.{[], refl}
-use Rattle.std.proofs.Common.{ap, ◌∙◌}
+use Rattle.std.proofs.Common.{◌≡◌, ℕ, List, [], ◌++◌, refl, sym, ap, ◌∙◌, append-nil}
 use Rattle.trace_values.specs.Placed.{placed}
-use Rattle.source_events.specs.declared.plan.Plan.{Plan}
 use Rattle.trace_stream.specs.Served.{IsLawful}
 use Rattle.recovery_report.specs.Report.{report_with}
 use Rattle.recovery_engine.proofs.Growing.{nothing_first, report_grows}
 use Rattle.capture_actions.specs.declared.list_plan.ListPlan.{ListPlan}
+use Rattle.recovery_listing.specs.Account.{GoesOn, Pages}
 use Rattle.recovery_listing.specs.LineLaws.{near_append}
 use Rattle.recovery_listing.specs.Near.{listing_meaning, near_lines_after}
 use Rattle.recovery_listing.specs.declared.going_on.GoingOn.{GoingOn}
-use Rattle.recovery_listing.specs.Summary.{check_meaning}
+use Rattle.recovery_listing.specs.Summary.{at_end}
 
 pub listing_lawful : (p : GoingOn ListPlan) → IsLawful (listing_meaning p)
 listing_lawful p =
@@ -29,12 +28,24 @@ listing_lawful p =
           );
     }
 
-pub check_lawful : (plan : Plan) → IsLawful (check_meaning plan)
-check_lawful plan = record {
+-- what writes nothing before the end
+pub end_lawful : (ending : List ℕ → List ℕ) → IsLawful (at_end ending)
+end_lawful ending = record {
   never_at_first = λ h. h;
   nothing_at_first = refl;
   faulty_stays = λ xs ys h. h;
   text_stays = λ xs ys h. refl;
   ending_stays = λ xs ys h. absurd h;
   text_grows = λ xs ys. ([], refl);
+}
+
+pub end_goes_on : (stands : List ℕ → Type 0) (ending : List ℕ → List ℕ) (seen front : List ℕ) (old new : Pages) →
+    new ≡ old → old.notes ≡ [] → stands (seen ++ front) →
+    GoesOn stands (at_end ending) (λ bytes. []) seen front old new
+end_goes_on stands ending seen front old new same silent read = record {
+  read = read;
+  more = [];
+  grown = refl;
+  gained = ap (λ (pages : Pages). pages.text) same ∙ sym (append-nil old.text);
+  noted = sym (ap (λ (pages : Pages). pages.notes) same ∙ silent);
 }

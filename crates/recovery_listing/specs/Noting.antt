@@ -48,9 +48,9 @@ given_of own e false = given_by own e (as_strict e.what)
 abbrev pub with_losses : Option ℕ → List (Event (Heard Packet)) → List (Event Packet)
 with_losses own es = flat_map (λ e. given_of own e (is_misread e.what)) es
 
--- The receiver was given these events, where a fault counts as an overflow packet, and puts into the outlet, whose value
--- is the list of its bytes; the lines of the faults were added to those that are to be noted; and it knows whether a
--- fault came.
+-- The receiver was given these events, where a fault counts as an overflow packet, and puts into the outlet, whose
+-- value is the list of its bytes; the lines of the faults were added to those that are to be noted; and it knows
+-- whether a fault came.
 pub record NotingGets {R : Type 0} (own : (R × List ℕ) → List (Event Packet) → (R × List ℕ) → Type 0)
     (old : Noting R × List ℕ) (es : List (Event (Heard Packet))) (new : Noting R × List ℕ) : Type 0 where
   pub same : new.0.source ≡ old.0.source

@@ -14,7 +14,7 @@ use Rattle.recovery_report.specs.Report.{sure_events}
 use Rattle.recovery_listing.specs.FaultLines.{fault_lines}
 use Rattle.recovery_listing.specs.Listing.{has_fault}
 use Rattle.recovery_listing.specs.Noting.{NotingGets, given_of, is_misread, with_losses}
-use Rattle.recovery_listing.specs.Sure.{sure_faults_append, sure_lines_append}
+use Rattle.recovery_listing.specs.SureLaws.{sure_faults_append, sure_lines_append}
 use Rattle.recovery_listing.specs.declared.noting.Noting.{Noting}
 
 -- what is read is no fault of a guess
@@ -42,7 +42,8 @@ module _ {R : Type 0} (own : (R × List ℕ) → List (Event Packet) → (R × L
   }
 
   pub gets_more : ((a b c : R × List ℕ) (es fs : List (Event Packet)) → own a es b → own b fs c → own a (es ++ fs) c) →
-      (a b c : Noting R × List ℕ) (es fs : List (Event (Heard Packet))) → NotingGets own a es b → NotingGets own b fs c →
+      (a b c : Noting R × List ℕ) (es fs : List (Event (Heard Packet))) → NotingGets own a es b →
+      NotingGets own b fs c →
       NotingGets own a (es ++ fs) c
   gets_more more a b c es fs g h =
       let source = a.0.source in

@@ -15,6 +15,10 @@ summary plan bytes =
     faults_line (faults_of plan u)
     ++ counts_by (port_counts_of plan u) (source_counts_of plan u) (tails_of plan u)
 
--- all that `check` makes of the bytes of a capture: no fault ends it, and nothing is written before the end
+-- no fault ends it, and nothing is written before the end
+abbrev pub at_end : (List ℕ → List ℕ) → Meaning
+at_end ending = record { faulty = λ bytes. ⊥; text = λ bytes. []; ending = ending; due = false }
+
+-- all that `check` makes of the bytes of a capture
 abbrev pub check_meaning : Plan → Meaning
-check_meaning plan = record { faulty = λ bytes. ⊥; text = λ bytes. []; ending = summary plan; due = false }
+check_meaning plan = at_end (summary plan)

@@ -10,11 +10,11 @@ use Rattle.capture_actions.specs.PortText.{source_of, values_in}
 use Rattle.capture_actions.specs.declared.port_text_plan.PortTextPlan.{PortTextPlan}
 use Rattle.capture_actions.specs.declared.port_values.PortValues.{PortValues}
 use Rattle.recovery_listing.specs.Account.{GoesOn, Pages, events_of}
-use Rattle.recovery_listing.specs.FaultLines.{fault_lines, noted_faults}
-use Rattle.recovery_listing.specs.Listing.{has_fault, is_faulty, seen_in}
+use Rattle.recovery_listing.specs.FaultLines.{noted_faults}
+use Rattle.recovery_listing.specs.Listing.{has_fault, seen_in}
 use Rattle.recovery_listing.specs.PortText.{noted_text, port_text_meaning}
 use Rattle.recovery_listing.specs.PortTextLaws.{values_more, without_losses}
-use Rattle.recovery_listing.specs.Sure.{faulty_more, noted_more}
+use Rattle.recovery_listing.specs.SureLaws.{faulty_more, noted_more}
 use Rattle.recovery_listing.specs.Text.{HasPut, asked, gets}
 use Rattle.recovery_listing.specs.declared.going_on.GoingOn.{GoingOn}
 use Rattle.recovery_listing.specs.declared.noting.Noting.{Noting}

@@ -29,8 +29,8 @@ abbrev pub is_begun : List ℕ → Bool
 is_begun [] = false
 is_begun (byte ∷ bytes) = true
 
--- its dump took the packets of the plan's source, and it knows whether there was a byte, and whether the report of these
--- bytes has a fault
+-- its dump took the packets of the plan's source, and it knows whether there was a byte, and whether the report of
+-- these bytes has a fault
 pub record HasDumped (account : RecoveringDump) (how : GoingOn Plan) (seen : List ℕ) : Type 0 where
   pub source : account.noting.source ≡ source_of how.plan
   pub own : account.noting.receiver.source ≡ source_of how.plan

@@ -1,6 +1,6 @@
 -- How the account of `vcd` goes on: proofs that its `impl` cites.
 use Rattle.std.proofs.Common.{◌≡◌, ◌<◌, ℕ, List, [], ◌∷◌, ◌++◌, length, refl, sym, ◌∙◌, ap, subst, Bool, Option, arith}
-use Rattle.std.proofs.Common.{append_assoc, false, true}
+use Rattle.std.proofs.Common.{append_assoc, true}
 use Rattle.std.specs.Prelude.{◌||◌, if◌then◌else◌}
 use Rattle.itm_grammar.specs.declared.packet.ItmPacket.{ItmPacket}
 use Rattle.source_events.specs.declared.event.Event.{Event}
@@ -21,7 +21,7 @@ use Rattle.recovery_listing.specs.DumpLaws.{dump_grows, packets_more}
 use Rattle.recovery_listing.specs.FaultLines.{noted_faults}
 use Rattle.recovery_listing.specs.Listing.{has_fault}
 use Rattle.recovery_listing.specs.Noting.{with_losses}
-use Rattle.recovery_listing.specs.Sure.{faulty_more, noted_more}
+use Rattle.recovery_listing.specs.SureLaws.{faulty_more, noted_more}
 use Rattle.recovery_listing.specs.Vcd.{HasDumped, asked, gets, is_begun}
 use Rattle.recovery_listing.specs.declared.going_on.GoingOn.{GoingOn}
 use Rattle.recovery_listing.specs.declared.vcd.RecoveringDump.{RecoveringDump}

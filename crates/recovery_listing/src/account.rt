@@ -17,8 +17,8 @@ ghost use Rattle.recovery_listing.specs.declared.going_on.GoingOn.{GoingOn};
 use recovery_engine::Recovery;
 use trace_stream::{ACTION_ROOM, OUTLET_ROOM, Outlet};
 
-/// What is made of a recovering report as its events come: what is written and noted of them, and what is written at the
-/// end. `Recovering` makes an action of it.
+/// What is made of a recovering report as its events come: what is written and noted of them, and what is written at
+/// the end. `Recovering` makes an action of it.
 ///
 /// It goes by what is read so far, and not by what was taken at once: so its laws are about bytes that were read, and
 /// more of them.

@@ -13,7 +13,7 @@ use source_events::Plan;
 use trace_stream::{OUTLET_ROOM, Outlet, TEXT_ROOM};
 use trace_text::print_tails;
 
-/// What is counted of a recovering report: the items of each source, and the faults.
+/// What is counted of a recovering report beside what the engine counts: the packets of each source, and the faults.
 #[derive(Drop)]
 pub struct Tally {
     pub(crate) heard: HeardCounts,
@@ -72,8 +72,8 @@ impl Account for Tally {
     ghost use Rattle.trace_stream.specs.Debt.{Paid};
     ghost use Rattle.recovery_listing.specs.Check.{HasCounted, IsAt, asked, gets};
     ghost use Rattle.recovery_listing.specs.CheckLaws.{goes_on, same};
-    ghost use Rattle.recovery_listing.specs.MeaningLaws.{check_lawful};
-    ghost use Rattle.recovery_listing.specs.Summary.{check_meaning};
+    ghost use Rattle.recovery_listing.specs.MeaningLaws.{end_lawful};
+    ghost use Rattle.recovery_listing.specs.Summary.{check_meaning, summary};
 
     type Asked = Plan;
 
@@ -91,7 +91,7 @@ impl Account for Tally {
 
     ghost meaning = { check_meaning };
 
-    ghost lawful = { check_lawful };
+    ghost lawful = { λ plan. end_lawful (summary plan) };
 
     ghost sound = { λ asked bytes h. h };
 
@@ -112,6 +112,10 @@ impl Account for Tally {
         _outlet: &mut Outlet,
         _notes: &mut Outlet,
     ) -> usize {
+        if let Some(bytes) = engine.count_frame(piece) {
+            self.bytes += bytes as u64;
+            return bytes;
+        }
         let taken = engine.take(piece, &mut self.heard, &mut ());
         self.bytes += taken as u64;
         taken

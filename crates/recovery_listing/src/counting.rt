@@ -21,8 +21,8 @@ use trace_values::{ID_COUNT, SourceId};
 /// A source of which nothing is counted.
 const NONE: Counts = Counts { bytes: 0, items: 0 };
 
-/// How many bytes a source has, and how many items: its packets, or the runs of one that is not mapped. Notices of locks
-/// and faults are none.
+/// How many bytes a source has, and how many items: its packets, or the runs of one that is not mapped. Notices of
+/// locks and faults are none.
 fn counts_of(engine: &Recovery, heard: &HeardCounts, id: SourceId) -> Counts
     requires few { heard_of heard.now ≤ GREATEST_COUNT }
     ensures value { (seen : List ℕ) → HasTallied engine.now heard.now seen →
@@ -30,9 +30,17 @@ fn counts_of(engine: &Recovery, heard: &HeardCounts, id: SourceId) -> Counts
     ensures few { (result.bytes ≤ GREATEST_COUNT) × (result.items ≤ GREATEST_COUNT) }
 {
     let _bytes = engine.next();
-    Counts {
-        bytes: engine.bytes(id).min(GREATEST_COUNT),
-        items: heard.items(id),
+    let sent = engine.counts(id);
+    let bytes = sent.bytes.min(GREATEST_COUNT);
+    match engine.kind_of(id) {
+        Some(_) => Counts {
+            bytes,
+            items: heard.packets(id),
+        },
+        None => Counts {
+            bytes,
+            items: sent.items.min(GREATEST_COUNT),
+        },
     }
 }
 

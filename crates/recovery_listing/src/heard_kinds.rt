@@ -20,7 +20,7 @@ use source_merge::Receiver;
 use stretch_readings::Heard;
 use trace_values::SourceId;
 
-/// Counts the items of each source and the faults, and the items by their words.
+/// Counts the packets of each source and the faults, and all items by their words.
 #[derive(Drop)]
 pub struct HeardKinds {
     pub(crate) heard: HeardCounts,

@@ -81,8 +81,9 @@ impl Account for KindTally {
     ghost use Rattle.std.specs.Prelude.{refl};
     ghost use Rattle.source_events.specs.declared.plan.Plan.{Plan};
     ghost use Rattle.recovery_listing.specs.KindTally.{HasSorted, IsAt, asked, debt_of, gets};
-    ghost use Rattle.recovery_listing.specs.KindTallyLaws.{goes_on, kinds_lawful, same};
-    ghost use Rattle.recovery_listing.specs.Kinds.{kinds_meaning_on};
+    ghost use Rattle.recovery_listing.specs.KindTallyLaws.{goes_on, same};
+    ghost use Rattle.recovery_listing.specs.Kinds.{kinds_meaning_on, kinds_summary};
+    ghost use Rattle.recovery_listing.specs.MeaningLaws.{end_lawful};
 
     type Asked = Plan;
 
@@ -100,7 +101,7 @@ impl Account for KindTally {
 
     ghost meaning = { kinds_meaning_on };
 
-    ghost lawful = { kinds_lawful };
+    ghost lawful = { λ plan. end_lawful (kinds_summary plan) };
 
     ghost sound = { λ asked bytes h. h };
 

@@ -103,9 +103,8 @@ fn take_told(clocks: &mut SourceClocks, source: SourceId, told: &Told)
 impl RecoveringLister {
     ghost use Rattle.item_tap.specs.declared.bounds.Bounds.{Bounds};
     ghost use Rattle.item_tap.specs.declared.choice.Choice.{Choice};
-    ghost use Rattle.recovering_machines.specs.Hearing.{HeardFits};
     ghost use Rattle.recovery_report.specs.Report.{sure_events};
-    ghost use Rattle.recovery_listing.specs.Lister.{Stands, gets, plan_of, room};
+    ghost use Rattle.recovery_listing.specs.Lister.{Stands, plan_of};
     ghost use Rattle.recovery_listing.specs.Listing.{has_fault};
 
     /// No event came yet. It lists those of a capture that is read so which meet one of some choices, if there are any,
@@ -127,66 +126,10 @@ impl RecoveringLister {
     {
         self.is_faulty
     }
-
-    /// Takes the next event, which is sure.
-    fn hear_sure(&mut self, outlet: &mut Outlet, event: Event<Heard<Packet>>)
-        requires fits { HeardFits event }
-        requires sure { is_guess event.what ≡ false }
-        requires room { 0 < room (self.old, outlet.old) }
-        ensures gets { gets (self.old, outlet.old) (event ∷ []) (self.new, outlet.new) }
-        ensures room { room (self.old, outlet.old) ≤ room (self.new, outlet.new) + 1 }
-    {
-        let (at, half, source) = (event.at, event.half, event.source);
-        match strictly(event.what) {
-            Ok(what) => {
-                let event = Event {
-                    at,
-                    half,
-                    source,
-                    what,
-                };
-                take_sure(&mut self.guess_clocks, &event);
-                self.lister.give(outlet, event);
-            }
-            Err(reason) => {
-                let fault = Fault { at, half, reason };
-                self.lister.put_fault(outlet, &Stop { fault, source });
-                self.is_faulty = true;
-            }
-        }
-    }
-
-    /// Takes the next event, which is a guess.
-    #[inline(never)]
-    fn hear_guess(&mut self, outlet: &mut Outlet, event: Event<Heard<Packet>>)
-        requires fits { HeardFits event }
-        requires guess { is_guess event.what ≡ true }
-        requires room { 0 < room (self.old, outlet.old) }
-        ensures gets { gets (self.old, outlet.old) (event ∷ []) (self.new, outlet.new) }
-        ensures room { room (self.old, outlet.old) ≤ room (self.new, outlet.new) + 1 }
-    {
-        let (at, half, source) = (event.at, event.half, event.source);
-        match strictly(event.what) {
-            Ok(what) => {
-                let event = Event {
-                    at,
-                    half,
-                    source,
-                    what,
-                };
-                self.lister
-                    .put_guess(outlet, &mut self.guess_clocks, &event);
-            }
-            Err(reason) => {
-                let fault = Fault { at, half, reason };
-                self.lister.put_misread(outlet, &Stop { fault, source });
-            }
-        }
-    }
 }
 
-/// An event goes to the outlet as its line, if it is listed. Neither the choices nor the window are asked of a fault, and
-/// the window does not see a guess.
+/// An event goes to the outlet as its line, if it is listed. Neither the choices nor the window are asked of a fault,
+/// and the window does not see a guess.
 impl Hearer for RecoveringLister {
     ghost use Rattle.recovery_listing.specs.Lister.{Lists, gets, room};
     ghost use Rattle.recovery_listing.specs.ListerLaws.{gets_more, gets_none};
@@ -204,10 +147,34 @@ impl Hearer for RecoveringLister {
     ghost gets_more = { gets_more };
 
     fn hear(&mut self, outlet: &mut Outlet, event: Event<Heard<Packet>>) {
-        if is_guess(&event.what) {
-            self.hear_guess(outlet, event);
-        } else {
-            self.hear_sure(outlet, event);
+        let (at, half, source) = (event.at, event.half, event.source);
+        let guess = is_guess(&event.what);
+        match strictly(event.what) {
+            Ok(what) => {
+                let event = Event {
+                    at,
+                    half,
+                    source,
+                    what,
+                };
+                if guess {
+                    self.lister
+                        .put_guess(outlet, &mut self.guess_clocks, &event);
+                } else {
+                    take_sure(&mut self.guess_clocks, &event);
+                    self.lister.give(outlet, event);
+                }
+            }
+            Err(reason) => {
+                let fault = Fault { at, half, reason };
+                let stop = Stop { fault, source };
+                if guess {
+                    self.lister.put_misread(outlet, &stop);
+                } else {
+                    self.lister.put_fault(outlet, &stop);
+                    self.is_faulty = true;
+                }
+            }
         }
     }
 

@@ -1,5 +1,5 @@
-//! `text` that goes on after faults: the values that software wrote to one stimulus port of an ITM source, and the lines
-//! of the faults among them as notes.
+//! `text` that goes on after faults: the values that software wrote to one stimulus port of an ITM source, and the
+//! lines of the faults among them as notes.
 
 ghost use Rattle.std.specs.Prelude.{◌≡◌, [], IfOk};
 

@@ -32,10 +32,11 @@ loop-number-preserved c =
             few =
                 (let a = below_found n (as_slots slots) (any_at n slots w.in-Some.ensures.found) in
                 let b = ap length (w.tails-is ∙ w.push.ensures) in
-                let d = length-append c.loop-number.tails (w.in-Some.tail ∷ []) in let e = c.loop-number.invariant.few in
-                omega (arith, a, b, d, e));
+                let d = length-append c.loop-number.tails (w.in-Some.tail ∷ []) in
+                let e = c.loop-number.invariant.few in omega (arith, a, b, d, e));
             tails = λ guesses parts k.
-                w.tails-is ∙ w.push.ensures ∙ ap (λ l. l ++ w.in-Some.tail ∷ []) (c.loop-number.invariant.tails guesses parts k)
+                w.tails-is ∙ w.push.ensures
+                ∙ ap (λ l. l ++ w.in-Some.tail ∷ []) (c.loop-number.invariant.tails guesses parts k)
                 ∙ ap (λ l. source_tails plan parts n ++ l) (w.in-Some.ensures.tail guesses parts k)
                 ∙ sym (tails_more plan parts n);
           }
@@ -45,7 +46,8 @@ loop-number-preserved c =
                 (let a = below_more n (as_slots slots) in let b = ap length w.tails-is in
                 let e = c.loop-number.invariant.few in omega (arith, a, b, e));
             tails = λ guesses parts k.
-                w.tails-is ∙ c.loop-number.invariant.tails guesses parts k ∙ sym (append-nil (source_tails plan parts n))
+                w.tails-is ∙ c.loop-number.invariant.tails guesses parts k
+                ∙ sym (append-nil (source_tails plan parts n))
                 ∙ ap (λ l. source_tails plan parts n ++ l) (w.in_default.ensures.tail guesses parts k)
                 ∙ sym (tails_more plan parts n);
           }
@@ -53,5 +55,6 @@ loop-number-preserved c =
 
 pub returns : goal.returns
 returns c = λ guesses parts k.
-    let all : c.loop-number.number ≡ ID_COUNT = omega (arith, c.loop-number.auto.number-end, c.loop-number-test.false) in
+    let all : c.loop-number.number ≡ ID_COUNT =
+    omega (arith, c.loop-number.auto.number-end, c.loop-number-test.false) in
     c.loop-number.invariant.tails guesses parts k ∙ ap (λ n. source_tails c.args.plan.now parts n) all

@@ -21,9 +21,10 @@ loop-index-preserved g c =
     let cell = c.cell-cell.result in
     record {
       given =
-          subst (λ l. g.V.Hearer.gets (c.args.out.now, c.args.to.now) l (c.hear_trigger.new.self, c.hear_trigger.new.to))
-          (one_more x run k cell
-          (let n = c.len-index-end.ensures in let h = c.loop-index-test.true in omega (arith, n, h)) c.cell-cell.ensures)
+          subst (λ l. g.V.Hearer.gets (c.args.out.now, c.args.to.now) l
+          (c.hear_trigger.new.self, c.hear_trigger.new.to))
+          (one_more x run k cell (let n = c.len-index-end.ensures in let h = c.loop-index-test.true in
+          omega (arith, n, h)) c.cell-cell.ensures)
           (g.met.V.Hearer.gets_more (c.args.out.now, c.args.to.now) (c.loop-index.out, c.loop-index.to)
           (c.hear_trigger.new.self, c.hear_trigger.new.to) (told_by x (take k run))
           (trigger x cell ∷ []) i.given c.hear_trigger.ensures.gets);

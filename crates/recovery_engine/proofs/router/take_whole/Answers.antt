@@ -30,27 +30,18 @@ loop-run-init g c =
 few : (split : SplitFrame) → length (split_cells split) ≤ 15
 few split = few_cells split.frame.now.bytes (frame_places split.frame.now) split.id
 
-pub take_run-requires-clause-few : goal.take_run-requires-clause-few
-take_run-requires-clause-few g c =
+pub take_run-requires : goal.take_run-requires
+take_run-requires g c =
     let i = c.loop-run.invariant.so_far in
     let cut = first_run _ _ _ c.in-Some.ensures.first c.source.ensures.some in
     let all = cut.total in
     let most = few c.of-split.result in
     let size = i.size in
-    let now = i.few in
-    let before = c.requires.few in
-    omega (arith, all, most, size, now, before)
-
-pub take_run-requires-clause-room : goal.take_run-requires-clause-room
-take_run-requires-clause-room g c =
-    let i = c.loop-run.invariant.so_far in
-    let cut = first_run _ _ _ c.in-Some.ensures.first c.source.ensures.some in
-    let all = cut.total in
-    let most = few c.of-split.result in
-    let size = i.size in
-    let now = i.space in
-    let before = c.requires.room in
-    omega (arith, all, most, size, now, before)
+    record {
+      own = c.source.ensures;
+      few = (let now = i.few in let before = c.requires.few in omega (arith, all, most, size, now, before));
+      room = (let now = i.space in let before = c.requires.room in omega (arith, all, most, size, now, before));
+    }
 
 pub loop-run-smaller : goal.loop-run-smaller
 loop-run-smaller g c =

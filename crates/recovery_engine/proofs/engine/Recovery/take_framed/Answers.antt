@@ -1,50 +1,53 @@
-use Rattle.std.proofs.Common.{◌≡◌, ◌+◌, ◌*◌, ◌≤◌, ◌++◌, ℕ, List, arith, length, take, ap, ◌∙◌, sym, subst}
-use Rattle.trace_values.specs.Placed.{Placed, placed_from}
-use Rattle.frame_grammar.specs.Reading.{offsets_of}
-use Rattle.frame_grammar.specs.Whole.{IsWhole, without_halves}
-use Rattle.frame_grammar.specs.declared.gather.PlacedFrame.{PlacedFrame}
-use Rattle.frame_runs.specs.Gathered.{IsGathered, frame_places}
-use Rattle.source_events.specs.declared.event.Event.{Event}
-use Rattle.source_events.specs.declared.packet.Packet.{Packet}
-use Rattle.stretch_readings.specs.declared.heard.Heard.{Heard}
-use Rattle.recovery_report.specs.Report.{report_with}
-use Rattle.recovery_engine.specs.Engine.{Stands, count_of, guesses_of, plan_of}
-use Rattle.recovery_engine.specs.Front.{TakesFront, TakesGathered}
-use Rattle.recovery_engine.specs.declared.engine.Recovery.{Recovery}
+use Rattle.std.proofs.Common.{◌≡◌, ◌*◌, ◌≤◌, ℕ, List, Option, length, sym, ◌∙◌, ap, subst, arith, map}
+use Rattle.std.specs.List.{refill}
+use Rattle.frame_grammar.specs.Frame.{cells}
+use Rattle.frame_runs.specs.Gathered.{frame_places}
+use Rattle.source_events.specs.Runs.{runs_of}
+use Rattle.source_merge.proofs.Refilled.{refilled}
+use Rattle.recovering_machines.specs.Port.{id_of}
+use Rattle.recovery_report.specs.Report.{Part, Run}
+use Rattle.recovery_engine.specs.Slots.{total}
+use Rattle.recovery_engine.specs.Taking.{Takes}
+use Rattle.recovery_engine.specs.declared.slot.RecoveringSlot.{RecoveringSlot}
+use Rattle.recovery_engine.proofs.Gathering.{fronted, took}
 use Rattle.recovery_engine.proofs.engine.Recovery.take_framed.Goals as goal
 
--- the frame that a piece begins with, as its front
-front_of : {S : Type 0} (gets : S → List (Event (Heard Packet)) → S → Type 0) (left : S → ℕ) (frame : PlacedFrame)
-    (n : ℕ) (piece : List ℕ) (old new : Recovery × S) → frame.at ≡ count_of old.0 → n ≡ 16 + 2 * frame.halves →
-    16 + 2 * frame.halves ≤ length piece → IsWhole (take (16 + 2 * frame.halves) piece) frame.bytes frame.halves →
-    frame_places frame ≡ offsets_of (without_halves (placed_from (count_of old.0) (take (16 + 2 * frame.halves) piece))) →
-    TakesGathered gets left frame old new → TakesFront gets left piece n old new
-front_of gets left frame n piece old new here size room whole offsets t =
-    let at = count_of old.0 in
-    let w = take (16 + 2 * frame.halves) piece in
-    let q : IsGathered frame.at w frame = subst (λ (a : ℕ). IsGathered a w frame) (sym here)
-    (record { whole = whole; offsets = offsets }) in
-    let said : List Placed → List (Event (Heard Packet)) = λ u. report_with (guesses_of old.0) (plan_of old.0) u in
+pub invariant_of-self : goal.invariant_of-self
+invariant_of-self g c =
+    let passed = c.pass_gathered.new.self in
+    let old = passed.slots.items in
+    let new = c.take_whole.new.slots in
+    let all : refill (length old) old new ≡ new =
+    refilled old new (c.take_whole.ensures.len ∙ ap length c.as_mut_slice.ensures.value) in
+    let before : total c.as_mut_slice.result.now ≡ total c.args.self.now.slots.items =
+    ap total c.as_mut_slice.ensures.value ∙ ap (λ s. total s.items) c.pass_gathered.ensures.slots in
     record {
-      bytes = (omega (arith, size), omega (arith, size, room));
-      plan = t.plan;
-      guesses = t.guesses;
-      count = t.count ∙ ap (λ (k : ℕ). count_of old.0 + k) (sym size);
-      list = λ u k. subst (λ (m : ℕ). Stands new.0 (u ++ placed_from at (take m piece))) (sym size)
-          (subst (λ (a : ℕ). Stands new.0 (u ++ placed_from a w)) here (t.list u w k q));
-      given = (
-        t.given.0,
-        t.given.1,
-        λ u k. subst (λ (m : ℕ). said (u ++ placed_from at (take m piece)) ≡ said u ++ t.given.0) (sym size)
-            (subst (λ (a : ℕ). said (u ++ placed_from a w) ≡ said u ++ t.given.0) here (t.given.2 u w k q)),
-      );
-      room = (let r = t.room in omega (arith, r, size));
+      port_few = passed.port_few;
+      few = subst (λ (l : List RecoveringSlot). total l ≤ 90 * passed.count) (sym all)
+          (let f = c.args.self.now.few in let t = c.take_whole.ensures.few in let n = c.pass_gathered.ensures.count in
+          omega (arith, f, t, n, before));
+      counted_few = passed.counted_few;
+      limit = passed.limit;
     }
 
-pub returns-in-Some : goal.returns-in-Some
-returns-in-Some g c =
-    front_of g.V.Hearer.gets g.V.Hearer.room c.in-Some.frame c.size.result c.args.piece.now
-    (c.args.self.now, (c.args.out.now, c.args.to.now))
-    (c.take_gathered.new.self, (c.take_gathered.new.out, c.take_gathered.new.to))
-    c.in-Some.ensures.at c.size.ensures c.in-Some.ensures.room c.in-Some.ensures.whole c.in-Some.ensures.offsets
-    c.take_gathered.ensures
+pub returns : goal.returns
+returns g c =
+    let self = c.args.self.now in
+    let frame = c.in-Some.frame in
+    let passed = c.pass_gathered.new.self in
+    let p = c.pass_gathered.ensures in
+    let runs : Option ℕ → List Part = λ i. map Run (runs_of (cells frame.bytes (frame_places frame) i)) in
+    let seen = c.in-Some.ensures in
+    fronted g.V.Hearer.gets g.V.Hearer.room frame c.size.result c.args.piece.now self _ seen.here c.size.ensures
+    seen.within seen.is p.plan p.guesses p.count p.adds
+    (subst (λ (l : List RecoveringSlot). Takes g.V.Hearer.gets (runs (id_of self.port))
+    (l, (c.args.out.now, c.args.to.now)) (
+      refill (length passed.slots.items) passed.slots.items c.take_whole.new.slots,
+      (c.take_whole.new.out, c.take_whole.new.to),
+    )) (ap (λ s. s.items) p.slots)
+    (took g.V.Hearer.gets (runs (id_of self.port)) passed.slots.items c.as_mut_slice.ensures.value
+    c.take_whole.ensures.len (subst (λ (i : Option ℕ). Takes g.V.Hearer.gets (runs i)
+    (c.as_mut_slice.result.now, (c.args.out.now, c.args.to.now))
+    (c.take_whole.new.slots, (c.take_whole.new.out, c.take_whole.new.to))) c.id-before.ensures
+    c.take_whole.ensures.takes)))
+    c.take_whole.ensures.room

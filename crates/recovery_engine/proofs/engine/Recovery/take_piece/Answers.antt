@@ -15,9 +15,12 @@ use Rattle.recovery_report.specs.Port.{recovered}
 use Rattle.recovery_report.specs.Report.{parts_in}
 use Rattle.recovery_report.specs.Words.{AreOf, singles}
 use Rattle.recovery_engine.specs.Port.{PortStands}
-use Rattle.recovery_engine.specs.Slots.{StandFor, total}
+use Rattle.recovery_engine.specs.Engine.{Stands}
+use Rattle.recovery_engine.specs.Front.{Adds}
+use Rattle.recovery_engine.specs.Slots.{total}
 use Rattle.recovery_engine.specs.declared.slot.RecoveringSlot.{RecoveringSlot}
-use Rattle.recovery_engine.proofs.Feeding.{bare_more, bare_of, piece_bare, report_more, rises_more, stands_more}
+use Rattle.recovery_engine.proofs.Feeding.{bare_more, bare_of, piece_bare, rises_more}
+use Rattle.recovery_engine.proofs.Gathering.{report_after, stands_after, took}
 use Rattle.recovery_engine.proofs.engine.Recovery.take_piece.Goals as goal
 
 pub take_each-requires-clause-own : goal.take_each-requires-clause-own
@@ -77,42 +80,29 @@ returns g c =
     ∙ ap (λ (b : List ℕ). map bare_cell (placed_from run.at b)) (sym all_bytes)
     ∙ ap (λ (n : ℕ). map bare_cell (placed_from n bytes)) here in
     let bare = c.requires.bare in
-    let old = self.slots.items in
-    let new = c.take_each.new.slots in
-    let all : refill (length old) old new ≡ new =
-    refilled old new (c.take_each.ensures.len ∙ ap length c.as_mut_slice.ensures.value) in
-    let more : (u : List Placed) →
-    parts_in (recovered plan.frames (u ++ w)) ≡ parts_in (recovered plan.frames u) ++ singles cells =
-    λ u. subst (λ (m : FramesMode). parts_in (recovered m (u ++ w)) ≡ parts_in (recovered m u) ++ singles cells)
-    (sym bare) (bare_more w u ∙ ap (λ (l : List Cell). parts_in (recovered Bare u) ++ singles l) (sym cells_are)) in
+    let takes = took g.V.Hearer.gets (singles cells) self.slots.items c.as_mut_slice.ensures.value
+    c.take_each.ensures.len c.take_each.ensures.takes in
+    let adds : (u : List Placed) → Stands self u →
+    Adds self self.port self.totals (at + run.count) (singles cells) u (u ++ w) = λ u k. record {
+      port_is = subst (λ (m : FramesMode). PortStands m self.port (u ++ w)) (sym bare) tt;
+      counted = λ framed. absurd (framed bare);
+      count_is = (let e = k.count in let l = length-append u w in let p = length-placed_from at bytes in
+          omega (arith, e, l, p, taken));
+      rising = rises_more u at run.count bytes taken k.rising;
+      parts = subst (λ (m : FramesMode). parts_in (recovered m (u ++ w)) ≡ parts_in (recovered m u) ++ singles cells)
+          (sym bare) (bare_more w u ∙ ap (λ (l : List Cell). parts_in (recovered Bare u) ++ singles l) (sym cells_are));
+    } in
     record {
       bytes = (c.requires.some, omega (arith, size));
       plan = refl;
       guesses = refl;
       count = refl;
-      list = λ u k. record {
-        port = subst (λ (m : FramesMode). PortStands m self.port (u ++ w)) (sym bare) tt;
-        sources =
-            subst (λ (l : List RecoveringSlot). StandFor self.guesses plan (parts_in (recovered plan.frames (u ++ w))) l) (sym all)
-            (stands_more g.V.Hearer.gets self.guesses plan u (u ++ w) (singles cells)
-            (c.as_mut_slice.result.now, (c.args.out.now, c.args.to.now))
-            (new, (c.take_each.new.out, c.take_each.new.to)) (more u) c.take_each.ensures.takes
-            (subst (λ (l : List RecoveringSlot). StandFor self.guesses plan (parts_in (recovered plan.frames u)) l)
-            (sym c.as_mut_slice.ensures.value) k.sources));
-        counted = λ framed. absurd (framed bare);
-        count = (let e = k.count in let l = length-append u w in let p = length-placed_from at bytes in
-            omega (arith, e, l, p, taken));
-        rising = rises_more u at run.count bytes taken k.rising;
-      };
+      list = λ u k.
+          stands_after g.V.Hearer.gets self (singles cells) takes u (u ++ w) k _ refl refl refl (adds u k);
       given = (
-        c.take_each.ensures.takes.0,
-        c.take_each.ensures.takes.1,
-        λ u k. report_more g.V.Hearer.gets self.guesses plan u (u ++ w) (singles cells)
-            (c.as_mut_slice.result.now, (c.args.out.now, c.args.to.now))
-            (new, (c.take_each.new.out, c.take_each.new.to)) (more u) c.take_each.ensures.takes
-            (subst (λ (l : List RecoveringSlot). StandFor self.guesses plan (parts_in (recovered plan.frames u)) l)
-            (sym c.as_mut_slice.ensures.value) k.sources) (at + run.count)
-            (rises_more u at run.count bytes taken k.rising),
+        takes.0,
+        takes.1,
+        λ u k. report_after g.V.Hearer.gets self (singles cells) takes u (u ++ w) k _ _ _ (adds u k),
       );
       room = (let a = c.take_each.ensures.room in let b = piece_length run in omega (arith, a, b));
     }

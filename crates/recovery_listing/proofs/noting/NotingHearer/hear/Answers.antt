@@ -1,5 +1,5 @@
 use Rattle.std.proofs.Common.{◌∙◌, refl, sym, arith}
-use Rattle.recovery_listing.proofs.Noted.{event_given, fault_passed, guess_passed, smaller}
+use Rattle.recovery_listing.proofs.Noted.{event_given, smaller}
 use Rattle.recovery_listing.proofs.noting.NotingHearer.hear.Goals as goal
 
 pub returns-in-Ok-clause-gets : goal.returns-in-Ok-clause-gets

@@ -1,7 +1,7 @@
-use Rattle.std.proofs.Common.{◌≡◌, ℕ, ◌+◌, List, [], arith, ap, ◌∙◌, sym, subst, take, length, refl}
+use Rattle.std.proofs.Common.{◌≡◌, ℕ, List, [], arith, ap, ◌∙◌, subst, take, refl}
 use Rattle.std.proofs.lemmas.List.{length-take-le}
 use Rattle.trace_stream.specs.Debt.{with_debt}
-use Rattle.recovery_listing.specs.Recovering.{Stands, how_of, taken_by}
+use Rattle.recovery_listing.specs.Recovering.{Stands, how_of}
 use Rattle.recovery_listing.proofs.Taken.{Took, front_next, rest_size, took_both, took_none, took_on}
 use Rattle.recovery_listing.proofs.recovering.RecoveringAction.feed.Goals as goal
 

@@ -1,4 +1,4 @@
-use Rattle.std.proofs.Common.{◌≡◌, ◌+◌, ◌-◌, ◌≤◌, [], length, take}
+use Rattle.std.proofs.Common.{◌≡◌, ◌+◌, ◌-◌, ◌≤◌, length, take}
 use Rattle.trace_stream.specs.Debt.{Paid}
 use Rattle.recovery_listing.specs.Recovering.{Stands, how_of, taken_by}
 use Rattle.recovery_listing.proofs.Taken.{Took}

@@ -1,7 +1,7 @@
 use Rattle.std.proofs.Common.{◌∙◌, ap}
 use Rattle.recovery_listing.specs.Account.{events_of}
 use Rattle.recovery_listing.specs.Listing.{has_fault}
-use Rattle.recovery_listing.specs.Sure.{sure_of}
+use Rattle.recovery_listing.specs.SureLaws.{sure_of}
 use Rattle.recovery_listing.proofs.show.RecoveringListerAccount.has_fault.Goals as goal
 
 pub returns : goal.returns

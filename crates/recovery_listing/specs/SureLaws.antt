@@ -42,6 +42,11 @@ pub sure_of : (how : GoingOn Plan) (bytes : List ℕ) →
     sure_events (events_of how bytes) ≡ report how.plan (placed bytes)
 sure_of how bytes = sure_by how.guesses how.plan bytes
 
+-- without guesses they are all events
+pub events_sure : (how : GoingOn Plan) (bytes : List ℕ) → how.guesses ≡ false →
+    events_of how bytes ≡ report how.plan (placed bytes)
+events_sure how bytes e = ap (λ (guesses : Bool). report_with guesses how.plan (placed bytes)) e
+
 pub sure_append : (xs ys : List (Event (Heard Packet))) → sure_events (xs ++ ys) ≡ sure_events xs ++ sure_events ys
 sure_append xs ys = filter-append (λ (e : Event (Heard Packet)). not (is_guess e.what)) xs ys
 
