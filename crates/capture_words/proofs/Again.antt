@@ -1,6 +1,6 @@
 -- The search for the first of some IDs that stands earlier already, and that they are sound where there is none.
 use Rattle.std.proofs.Common.{◌≡◌, ℕ, suc, ◌+◌, ◌<◌, ◌≤◌, List, [], ◌∷◌, ◌++◌, Bool, true, false, Option, Some, None}
-use Rattle.std.proofs.Common.{refl, sym, ap, ◌∙◌, subst, length, arith, nat_le, ◌==◌, ◌||◌, if◌then◌else◌}
+use Rattle.std.proofs.Common.{refl, sym, ap, ◌∙◌, subst, length, arith, nat_le, ◌==◌, ◌||◌, ◌&&◌, not, if◌then◌else◌}
 use Rattle.std.proofs.Common.{drop, drop-cons, get_or}
 use Rattle.std.specs.List.{AllByRecursion, list_any}
 use Rattle.std.proofs.lemmas.Bool.Decides.{nat_tests}
@@ -63,32 +63,36 @@ alone before x ids e =
 abbrev pub InRange : ℕ → ℕ → Type 0
 InRange greatest n = (1 ≤ n) × (n ≤ greatest)
 
-pub is_sound_list : (before ids : List ℕ) → again_after before ids ≡ None → AllByRecursion (InRange 111) ids →
-    are_sound ids ≡ true
-is_sound_list before [] e h = refl
-is_sound_list before (x ∷ ids) e h =
-    let one = alone before x ids e in
-    let rest = is_sound_list (before ++ x ∷ []) ids one.1 h.1 in
-    let low : nat_le 1 x ≡ true = (let l = h.0.0 in grind (arith, nat_tests)) in
-    let high : nat_le x 111 ≡ true = (let l = h.0.1 in grind (arith, nat_tests)) in
-    rw (low, high, one.0, rest) refl
+-- what is read of IDs one by one so: from 1 to `greatest`, and not among those after it
+module _ (greatest : ℕ) (are : List ℕ → Bool) (none : are [] ≡ true)
+    (more : (x : ℕ) (ids : List ℕ) →
+    are (x ∷ ids) ≡ (nat_le 1 x && nat_le x greatest && not (list_any (λ y. y == x) ids) && are ids)) where
+  all_apart : (before ids : List ℕ) → again_after before ids ≡ None → AllByRecursion (InRange greatest) ids →
+      are ids ≡ true
+  all_apart before [] e h = none
+  all_apart before (x ∷ ids) e h =
+      let one = alone before x ids e in
+      let rest = all_apart (before ++ x ∷ []) ids one.1 h.1 in
+      let low : nat_le 1 x ≡ true = (let l = h.0.0 in grind (arith, nat_tests)) in
+      let high : nat_le x greatest ≡ true = (let l = h.0.1 in grind (arith, nat_tests)) in
+      more x ids ∙ rw (low, high, one.0, rest) refl
 
-pub is_apart_list : (before ids : List ℕ) → again_after before ids ≡ None → AllByRecursion (InRange 126) ids →
+pub is_sound_list : (ids : List ℕ) → again_after [] ids ≡ None → AllByRecursion (InRange 111) ids →
+    are_sound ids ≡ true
+is_sound_list = all_apart 111 are_sound refl (λ x ids. refl) []
+
+pub is_apart_list : (ids : List ℕ) → again_after [] ids ≡ None → AllByRecursion (InRange 126) ids →
     are_apart ids ≡ true
-is_apart_list before [] e h = refl
-is_apart_list before (x ∷ ids) e h =
-    let one = alone before x ids e in
-    let rest = is_apart_list (before ++ x ∷ []) ids one.1 h.1 in
-    let low : nat_le 1 x ≡ true = (let l = h.0.0 in grind (arith, nat_tests)) in
-    let high : nat_le x 126 ≡ true = (let l = h.0.1 in grind (arith, nat_tests)) in
-    rw (low, high, one.0, rest) refl
+is_apart_list = all_apart 126 are_apart refl (λ x ids. refl) []
 
 -- the search: what is after this place is looked for after what is before it
-pub next_again : (before ids : List ℕ) (i x : ℕ) → i < length ids → x ≡ get_or ids i x →
+pub next_again : (before ids : List ℕ) (i x : ℕ) → i < length ids → x ≡ get_or ids i x → (again : Bool) →
+    again ≡ list_any (λ y. y == x) before →
     again_after before (drop i ids)
-    ≡ (if list_any (λ y. y == x) before then Some x else again_after (before ++ x ∷ []) (drop (i + 1) ids))
-next_again before ids i x lt is =
+    ≡ (if again then Some x else again_after (before ++ x ∷ []) (drop (i + 1) ids))
+next_again before ids i x lt is again among =
     let next : suc i ≡ i + 1 = omega arith in
     let after : ℕ → ℕ → Option ℕ =
     λ z n. if list_any (λ y. y == z) before then Some z else again_after (before ++ z ∷ []) (drop n ids) in
     ap (again_after before) (drop-cons ids i x lt) ∙ ap (λ z. after z (suc i)) (sym is) ∙ ap (after x) next
+    ∙ ap (λ (b : Bool). if b then Some x else again_after (before ++ x ∷ []) (drop (i + 1) ids)) (sym among)

@@ -18,10 +18,7 @@ use Rattle.capture_words.specs.Choices.{kind_text, choice_text, IsChoice}
 -- from the choice to its text
 kind_named_so : (kind : Kind) → choice_named (kind_text kind) ≡ Some (OfKind kind)
 kind_named_so Itm = refl
-kind_named_so Dwt = refl
-kind_named_so Stp = refl
-kind_named_so Raw = refl
-kind_named_so Trigger = refl
+kind_named_so kind = refl
 
 source_named_so : (x : ℕ) → 1 ≤ x → x ≤ 126 → choice_named (codes "id=" ++ decimal x) ≡ Some (Source x)
 source_named_so x low high =

@@ -1,6 +1,5 @@
 pub mod Shapes
 pub mod Calls
-mod Answering
 pub mod Chosen
 mod Lines
 mod Windows
@@ -8,3 +7,4 @@ mod CommaLists
 mod ChoiceLists
 mod Again
 pub mod IdLists
+mod Sound

@@ -15,7 +15,7 @@ use Rattle.item_tap.specs.declared.bounds.Bounds.{Bounds}
 use Rattle.item_tap.specs.declared.choice.Choice.{Choice}
 use Rattle.item_tap.specs.declared.choice.Choice.TheVariants.{OfKind, Source, Port, Comparator, Time}
 use Rattle.item_tap.specs.declared.choice.Kind.{Kind}
-use Rattle.item_tap.specs.declared.choice.Kind.TheVariants.{Itm, Dwt, Stp, Raw, Trigger}
+use Rattle.item_tap.specs.declared.choice.Kind.TheVariants.{Itm}
 use Rattle.capture_words.specs.Choices.{kind_text, choice_text, window_text, IsChoice, IsWindow}
 use Rattle.capture_words.specs.Values.{choice_named, bounds_of, window_named}
 use Rattle.capture_words.proofs.Chosen.{names}
@@ -53,11 +53,8 @@ lacks_front (x ∷ front) text none h = go (x == 44) refl none (λ e. lacks_fron
     go false b none more = lacks_more x (front ++ text) (grind (arith, nat_tests)) (more none)
 
 kind_lacks : (kind : Kind) → Lacks 44 (kind_text kind)
-kind_lacks Itm = lacks_front (codes "itm") [] refl lacks_nothing
-kind_lacks Dwt = lacks_front (codes "dwt") [] refl lacks_nothing
-kind_lacks Stp = lacks_front (codes "stp") [] refl lacks_nothing
-kind_lacks Raw = lacks_front (codes "raw") [] refl lacks_nothing
-kind_lacks Trigger = lacks_front (codes "trigger") [] refl lacks_nothing
+kind_lacks Itm = lacks_front (kind_text Itm) [] refl lacks_nothing
+kind_lacks kind = lacks_front (kind_text kind) [] refl lacks_nothing
 
 pub choice_lacks : (choice : Choice) → IsChoice choice → Lacks 44 (choice_text choice)
 choice_lacks (OfKind kind) is = kind_lacks kind

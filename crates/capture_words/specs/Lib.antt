@@ -5,4 +5,3 @@ pub mod Jobs
 pub mod Texts
 pub mod Choices
 pub mod Calls
-pub mod Rows

@@ -1,9 +1,11 @@
 //! Choices of events in words.
 
 ghost use Rattle.std.specs.Prelude.{◌≡◌};
+ghost use Rattle.std.proofs.Common.{rules};
 ghost use Rattle.decimal_words.specs.Numbers.{number_after};
-ghost use Rattle.capture_words.specs.Values.{kind_named, choice_named, choices_named, window_named};
+ghost use Rattle.capture_words.specs.Values.{kind_named, choice_named, window_named};
 
+use crate::list::Listed;
 use decimal_words::{id_named, number_named, text_after};
 use item_tap::{Bounds, Choice, Choices, Kind, MOST_CHOICES};
 use trace_values::SourceId;
@@ -68,19 +70,34 @@ pub fn choice_named(text: &str) -> Option<Choice>
     }
 }
 
-/// The choices of this text: one to eight with commas between.
-pub fn choices_named(text: &str) -> Option<Choices>
-    ensures { result ≡ choices_named text.now }
-{
-    let mut parts = text.split(',');
-    let mut choices = Choices::new(choice_named(parts.next()?)?);
-    for part in parts {
-        if choices.as_slice().len() == MOST_CHOICES {
-            return None;
-        }
-        choices.push(choice_named(part)?);
+impl Listed for Choices {
+    type Item = Choice;
+
+    ghost named = { choice_named };
+
+    ghost items = { λ choices. choices };
+
+    ghost MOST = { 8 };
+
+    const MOST: usize = MOST_CHOICES;
+
+    ghost has_room = { Prim.search rules };
+
+    fn item_named(text: &str) -> Option<Choice> {
+        choice_named(text)
     }
-    Some(choices)
+
+    fn of(choice: Choice) -> Choices {
+        Choices::new(choice)
+    }
+
+    fn count(&self) -> usize {
+        self.as_slice().len()
+    }
+
+    fn add(&mut self, choice: Choice) {
+        self.push(choice);
+    }
 }
 
 /// The window of this text: two choices with a comma between them.

@@ -1,56 +1,79 @@
 //! Lists of IDs.
 
-ghost use Rattle.std.specs.Prelude.{◌≡◌, ◌≤◌, ◌++◌, [], IfSome, option_map};
-ghost use Rattle.std.specs.List.{All};
-ghost use Rattle.capture_words.specs.Choices.{AreIds};
+ghost use Rattle.std.specs.Prelude.{◌≡◌, ◌++◌, []};
+ghost use Rattle.std.proofs.Common.{rules};
+ghost use Rattle.decimal_words.specs.Numbers.{number_named};
 ghost use Rattle.capture_words.specs.Jobs.{again_after};
-ghost use Rattle.capture_words.specs.Values.{ids_named};
 
+use crate::list::Listed;
 use arrayvec::ArrayVec;
 use decimal_words::id_named;
 use source_events::{KIND_SOURCES, MAPPED_SOURCES, SourceIds};
 use trace_funnel::{MOST_PLACES, TurnOrder};
 use trace_values::SourceId;
 
-/// The IDs that a text names: one to `N` from 1 to `greatest`, with commas between.
-fn ids_named<const N: usize>(greatest: u8, text: &str) -> Option<ArrayVec<SourceId, N>>
-    requires { greatest ≤ 126 }
-    ensures value { option_map (λ ids. ids.items) result ≡ ids_named N greatest text.now }
-{
-    let mut ids = ArrayVec::new();
-    for part in text.split(',') {
-        if ids.is_full() {
-            return None;
-        }
-        ids.push(id_named(1, greatest, part)?);
+impl Listed for SourceIds {
+    type Item = SourceId;
+
+    ghost named = { number_named 1 111 };
+
+    ghost items = { λ ids. ids };
+
+    ghost MOST = { 8 };
+
+    const MOST: usize = KIND_SOURCES;
+
+    ghost has_room = { Prim.search rules };
+
+    fn item_named(text: &str) -> Option<SourceId> {
+        id_named(1, 111, text)
     }
-    Some(ids)
+
+    fn of(id: SourceId) -> SourceIds {
+        let mut ids = SourceIds::new();
+        ids.push(id);
+        ids
+    }
+
+    fn count(&self) -> usize {
+        self.as_slice().len()
+    }
+
+    fn add(&mut self, id: SourceId) {
+        self.push(id);
+    }
 }
 
-/// The IDs of mapped sources that a text names: one to eight from 1 to 111, with commas between.
-pub fn sources_named(text: &str) -> Option<SourceIds>
-    ensures value { result ≡ ids_named 8 111 text.now }
-    ensures in_range { IfSome result (All (λ n. (1 ≤ n) × (n ≤ 111))) }
-{
-    let ids: ArrayVec<SourceId, KIND_SOURCES> = ids_named(111, text)?;
-    let mut sources = SourceIds::new();
-    for id in ids.as_slice() {
-        sources.push(*id);
-    }
-    Some(sources)
-}
+impl Listed for TurnOrder {
+    type Item = SourceId;
 
-/// The order of a funnel's turns that a text names: one to sixteen IDs from 1 to 126, with commas between.
-pub fn turn_order_named(text: &str) -> Option<TurnOrder>
-    ensures value { result ≡ ids_named 16 126 text.now }
-    ensures in_range { IfSome result (AreIds 16 126) }
-{
-    let ids: ArrayVec<SourceId, MOST_PLACES> = ids_named(126, text)?;
-    let mut order = TurnOrder::new();
-    for id in ids.as_slice() {
-        order.push(*id);
+    ghost named = { number_named 1 126 };
+
+    ghost items = { λ order. order };
+
+    ghost MOST = { 16 };
+
+    const MOST: usize = MOST_PLACES;
+
+    ghost has_room = { Prim.search rules };
+
+    fn item_named(text: &str) -> Option<SourceId> {
+        id_named(1, 126, text)
     }
-    Some(order)
+
+    fn of(id: SourceId) -> TurnOrder {
+        let mut order = TurnOrder::new();
+        order.push(id);
+        order
+    }
+
+    fn count(&self) -> usize {
+        self.as_slice().len()
+    }
+
+    fn add(&mut self, id: SourceId) {
+        self.push(id);
+    }
 }
 
 /// The first of these IDs that stands earlier already.

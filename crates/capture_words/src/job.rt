@@ -1,17 +1,9 @@
 //! The job of the entries.
 
-ghost use Rattle.std.specs.Prelude.{◌≡◌, ◌≤◌, ◌<◌, true, IfOk, IfSome};
-ghost use Rattle.std.specs.List.{All};
-ghost use Rattle.std.specs.Option.{ForSome};
-ghost use Rattle.capture_words.specs.declared.values.TheConstants.{GREATEST_LIMIT, GREATEST_HALF, GREATEST_ITEMS};
-ghost use Rattle.capture_words.specs.declared.values.TheConstants.{GREATEST_LOSS, LEAST_SIZE, GREATEST_SIZE};
-ghost use Rattle.capture_words.specs.declared.values.TheConstants.{GREATEST_PORT};
+ghost use Rattle.std.specs.Prelude.{◌≡◌};
 ghost use Rattle.clap.specs.Words.{rows_of, found_of};
-ghost use Rattle.source_events.specs.Plan.{is_sound};
 ghost use Rattle.capture_words.specs.Jobs.{plan_with, split_with, ring_with, unring_with, plan_of_one};
-ghost use Rattle.capture_words.specs.Jobs.{turns_with, task_with, job_of, IsSoundTask, IsOfOne};
-ghost use Rattle.capture_words.specs.Choices.{AreIds};
-ghost use Rattle.trace_funnel.specs.SoundTurns.{IsSoundTurns};
+ghost use Rattle.capture_words.specs.Jobs.{turns_with, task_with, job_of};
 
 use crate::ids::{first_again, mapped_twice};
 use crate::recover::Recover;
@@ -25,7 +17,7 @@ use trace_funnel::Turns;
 use trace_values::{FramesMode, SourceId};
 
 /// What is done with a capture.
-#[derive(Debug, Drop)]
+#[derive(Drop)]
 pub enum Task {
     /// A listing of what all sources give.
     Show {
@@ -119,7 +111,7 @@ pub enum Task {
 }
 
 /// What the words ask for.
-#[derive(Debug, Drop)]
+#[derive(Drop)]
 pub struct Job {
     /// What is done.
     pub task: Task,
@@ -129,10 +121,7 @@ pub struct Job {
 
 /// The plan, or that an ID is mapped twice.
 fn plan_with(plan: Plan) -> Result<Plan, UsageFault>
-    requires itm { All (λ n. (1 ≤ n) × (n ≤ 111)) plan.itm }
-    requires stp { All (λ n. (1 ≤ n) × (n ≤ 111)) plan.stp }
-    ensures plan { result ≡ plan_with plan }
-    ensures sound { IfOk result (λ plan. is_sound plan ≡ true) }
+    ensures { result ≡ plan_with plan }
 {
     match mapped_twice(&plan.itm, &plan.stp) {
         Some(id) => Err(UsageFault::MappedTwice(id)),
@@ -142,8 +131,7 @@ fn plan_with(plan: Plan) -> Result<Plan, UsageFault>
 
 /// The bytes of a source, whose ID is needed.
 fn split_with(frames: FramesMode, id: Option<SourceId>) -> Result<Task, UsageFault>
-    ensures task { result ≡ split_with frames id }
-    ensures sound { IfOk result IsSoundTask }
+    ensures { result ≡ split_with frames id }
 {
     match id {
         Some(id) => Ok(Task::Split { frames, id }),
@@ -153,9 +141,7 @@ fn split_with(frames: FramesMode, id: Option<SourceId>) -> Result<Task, UsageFau
 
 /// The image of a trace buffer, whose size is needed.
 fn ring_with(size: Option<usize>) -> Result<Task, UsageFault>
-    requires { IfSome size (λ n. (LEAST_SIZE ≤ n) × (n ≤ GREATEST_SIZE)) }
-    ensures task { result ≡ ring_with size }
-    ensures sound { IfOk result IsSoundTask }
+    ensures { result ≡ ring_with size }
 {
     match size {
         Some(size) => Ok(Task::Ring { size }),
@@ -165,9 +151,7 @@ fn ring_with(size: Option<usize>) -> Result<Task, UsageFault>
 
 /// The bytes of an image in order. Its size is needed, and its write pointer is under it.
 fn unring_with(buffer: BufferSettings) -> Result<Task, UsageFault>
-    requires { IfSome buffer.size (λ n. (LEAST_SIZE ≤ n) × (n ≤ GREATEST_SIZE)) }
-    ensures task { result ≡ unring_with buffer.size buffer.pointer buffer.full }
-    ensures sound { IfOk result IsSoundTask }
+    ensures { result ≡ unring_with buffer.size buffer.pointer buffer.full }
 {
     let Some(size) = buffer.size else {
         return Err(UsageFault::UnringNeedsSize);
@@ -186,9 +170,7 @@ fn unring_with(buffer: BufferSettings) -> Result<Task, UsageFault>
 
 /// The plan of what reads one source of ITM packets alone. The faults are that there is none, and that there are more.
 fn plan_of_one(plan: Plan, none: UsageFault, more: UsageFault) -> Result<Plan, UsageFault>
-    requires itm { All (λ n. (1 ≤ n) × (n ≤ 111)) plan.itm }
-    ensures plan { result ≡ plan_of_one none more plan.itm plan }
-    ensures sound { IfOk result IsOfOne }
+    ensures { result ≡ plan_of_one none more plan.itm plan }
 {
     match plan.itm.as_slice().len() {
         0 => Err(none),
@@ -205,11 +187,7 @@ fn plan_of_one(plan: Plan, none: UsageFault, more: UsageFault) -> Result<Plan, U
 
 /// The turns of a funnel, whose order is needed, and in which no source stands twice.
 fn turns_with(settings: TurnSettings) -> Result<Turns, UsageFault>
-    requires order { IfSome settings.order (AreIds 16 126) }
-    requires hold { (1 ≤ settings.hold) × (settings.hold ≤ 15) }
-    requires depth { (1 ≤ settings.depth) × (settings.depth ≤ 4096) }
-    ensures turns { result ≡ turns_with settings }
-    ensures sound { IfOk result (λ turns. IsSoundTurns turns) }
+    ensures { result ≡ turns_with settings }
 {
     let TurnSettings { order, hold, depth } = settings;
     let Some(order) = order else {
@@ -223,19 +201,7 @@ fn turns_with(settings: TurnSettings) -> Result<Turns, UsageFault>
 
 /// The task of an action, with what it needs of the options.
 fn task_with(name: ActionName, settings: Settings) -> Result<Task, UsageFault>
-    requires itm { All (λ n. (1 ≤ n) × (n ≤ 111)) settings.plan.itm }
-    requires stp { All (λ n. (1 ≤ n) × (n ≤ 111)) settings.plan.stp }
-    requires half { settings.half ≤ GREATEST_HALF }
-    requires items { (1 ≤ settings.items) × (settings.items ≤ GREATEST_ITEMS) }
-    requires lose { settings.lose ≤ GREATEST_LOSS }
-    requires port { settings.port ≤ GREATEST_PORT }
-    requires hz { ForSome settings.hz (λ n. 0 < n) }
-    requires size { IfSome settings.buffer.size (λ n. (LEAST_SIZE ≤ n) × (n ≤ GREATEST_SIZE)) }
-    requires order { IfSome settings.turns.order (AreIds 16 126) }
-    requires hold { (1 ≤ settings.turns.hold) × (settings.turns.hold ≤ 15) }
-    requires depth { (1 ≤ settings.turns.depth) × (settings.turns.depth ≤ 4096) }
-    ensures task { result ≡ task_with name settings }
-    ensures sound { IfOk result IsSoundTask }
+    ensures { result ≡ task_with name settings }
 {
     match name {
         ActionName::Show => Ok(Task::Show {
@@ -291,9 +257,7 @@ fn task_with(name: ActionName, settings: Settings) -> Result<Task, UsageFault>
 
 /// The job of the entries, or the first fault.
 pub fn job_of(matches: &ArgMatches<'_>) -> Result<Job, UsageFault>
-    ensures job { result ≡ job_of (rows_of (found_of matches.now)) }
-    ensures limit { IfOk result (λ job. (1 ≤ job.limit) × (job.limit ≤ GREATEST_LIMIT)) }
-    ensures sound { IfOk result (λ job. IsSoundTask job.task) }
+    ensures { result ≡ job_of (rows_of (found_of matches.now)) }
 {
     let name = action_in(matches)?;
     let settings = settings_in(matches)?;

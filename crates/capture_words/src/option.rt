@@ -4,7 +4,7 @@ ghost use Rattle.std.specs.Prelude.{◌≡◌, ◌≤◌, length};
 ghost use Rattle.capture_words.specs.Command.{option_name};
 
 /// An option of the command, in the order in which their values are looked at.
-#[derive(Clone, Copy, Debug, PartialEq, Eq, Drop)]
+#[derive(Clone, Copy, Drop)]
 pub enum CommandOption {
     /// `--frames`: where the reading of a port begins, or that no frames are around the bytes.
     Frames,
@@ -146,11 +146,12 @@ impl CommandOption {
                 port=1,port=2"
             }
             CommandOption::Sync => {
-                "How many frames rebuild writes for each full synchronisation, which comes before them: 0 (there \
-                are none) to 1000000, 64 where it is not given"
+                "How many frames rebuild or funnel writes for each full synchronisation, which comes before them: \
+                0 (there are none) to 1000000, 64 where it is not given"
             }
             CommandOption::Half => {
-                "How many half synchronisations rebuild writes in each gap of a frame: 0 (the default) to 8"
+                "How many half synchronisations rebuild or funnel writes in each gap of a frame: 0 (the default) \
+                to 8"
             }
             CommandOption::Limit => {
                 "How many bytes are read at most: 1 to 68719476736, which is the default"

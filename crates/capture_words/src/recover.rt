@@ -4,7 +4,7 @@ ghost use Rattle.std.specs.Prelude.{◌≡◌};
 ghost use Rattle.capture_words.specs.Values.{recover_named, guesses_of};
 
 /// What is done at a fault of a capture.
-#[derive(Clone, Copy, Debug, Drop)]
+#[derive(Clone, Copy, Drop)]
 pub enum Recover {
     /// The reading ends there.
     Off,

@@ -1,14 +1,8 @@
 //! What all options say.
 
-ghost use Rattle.std.specs.Prelude.{◌≡◌, ◌≤◌, ◌<◌, ℕ, Option, IfOk, IfSome};
-ghost use Rattle.std.specs.List.{All};
-ghost use Rattle.std.specs.Option.{ForSome};
-ghost use Rattle.capture_words.specs.declared.values.TheConstants.{GREATEST_LIMIT, GREATEST_SYNC, GREATEST_HALF};
-ghost use Rattle.capture_words.specs.declared.values.TheConstants.{GREATEST_ITEMS, GREATEST_LOSS};
-ghost use Rattle.capture_words.specs.declared.values.TheConstants.{LEAST_SIZE, GREATEST_SIZE, GREATEST_PORT};
+ghost use Rattle.std.specs.Prelude.{◌≡◌};
 ghost use Rattle.clap.specs.Words.{rows_of, found_of};
 ghost use Rattle.capture_words.specs.Settings.{plan_in, buffer_in, turns_in, settings_in};
-ghost use Rattle.capture_words.specs.Choices.{AreIds};
 
 use crate::recover::Recover;
 use crate::usage::UsageFault;
@@ -82,9 +76,7 @@ pub struct Settings {
 
 /// How a capture is read, by the first five options.
 fn plan_in(matches: &ArgMatches<'_>) -> Result<Plan, UsageFault>
-    ensures plan { result ≡ plan_in (rows_of (found_of matches.now)) }
-    ensures itm { IfOk result (λ plan. All (λ n. (1 ≤ n) × (n ≤ 111)) plan.itm) }
-    ensures stp { IfOk result (λ plan. All (λ n. (1 ≤ n) × (n ≤ 111)) plan.stp) }
+    ensures { result ≡ plan_in (rows_of (found_of matches.now)) }
 {
     Ok(Plan {
         frames: frames_in(matches)?,
@@ -97,8 +89,7 @@ fn plan_in(matches: &ArgMatches<'_>) -> Result<Plan, UsageFault>
 
 /// What the options say of a trace buffer.
 fn buffer_in(matches: &ArgMatches<'_>) -> Result<BufferSettings, UsageFault>
-    ensures buffer { result ≡ buffer_in (rows_of (found_of matches.now)) }
-    ensures size { IfOk result (λ b. IfSome b.size (λ n. (LEAST_SIZE ≤ n) × (n ≤ GREATEST_SIZE))) }
+    ensures { result ≡ buffer_in (rows_of (found_of matches.now)) }
 {
     Ok(BufferSettings {
         size: size_in(matches)?,
@@ -109,10 +100,7 @@ fn buffer_in(matches: &ArgMatches<'_>) -> Result<BufferSettings, UsageFault>
 
 /// What the options say of a funnel.
 fn turns_in(matches: &ArgMatches<'_>) -> Result<TurnSettings, UsageFault>
-    ensures turns { result ≡ turns_in (rows_of (found_of matches.now)) }
-    ensures order { IfOk result (λ t. IfSome t.order (AreIds 16 126)) }
-    ensures hold { IfOk result (λ t. (1 ≤ t.hold) × (t.hold ≤ 15)) }
-    ensures depth { IfOk result (λ t. (1 ≤ t.depth) × (t.depth ≤ 4096)) }
+    ensures { result ≡ turns_in (rows_of (found_of matches.now)) }
 {
     Ok(TurnSettings {
         order: turn_order_in(matches)?,
@@ -123,20 +111,7 @@ fn turns_in(matches: &ArgMatches<'_>) -> Result<TurnSettings, UsageFault>
 
 /// What the options say, or the first whose value is none of its own.
 pub fn settings_in(matches: &ArgMatches<'_>) -> Result<Settings, UsageFault>
-    ensures settings { result ≡ settings_in (rows_of (found_of matches.now)) }
-    ensures itm { IfOk result (λ s. All (λ n. (1 ≤ n) × (n ≤ 111)) s.plan.itm) }
-    ensures stp { IfOk result (λ s. All (λ n. (1 ≤ n) × (n ≤ 111)) s.plan.stp) }
-    ensures sync { IfOk result (λ s. s.sync ≤ GREATEST_SYNC) }
-    ensures half { IfOk result (λ s. s.half ≤ GREATEST_HALF) }
-    ensures limit { IfOk result (λ s. (1 ≤ s.limit) × (s.limit ≤ GREATEST_LIMIT)) }
-    ensures items { IfOk result (λ s. (1 ≤ s.items) × (s.items ≤ GREATEST_ITEMS)) }
-    ensures lose { IfOk result (λ s. s.lose ≤ GREATEST_LOSS) }
-    ensures size { IfOk result (λ s. IfSome s.buffer.size (λ n. (LEAST_SIZE ≤ n) × (n ≤ GREATEST_SIZE))) }
-    ensures order { IfOk result (λ s. IfSome s.turns.order (AreIds 16 126)) }
-    ensures hold { IfOk result (λ s. (1 ≤ s.turns.hold) × (s.turns.hold ≤ 15)) }
-    ensures depth { IfOk result (λ s. (1 ≤ s.turns.depth) × (s.turns.depth ≤ 4096)) }
-    ensures port { IfOk result (λ s. s.port ≤ GREATEST_PORT) }
-    ensures hz { IfOk result (λ s. ForSome s.hz (λ n. 0 < n)) }
+    ensures { result ≡ settings_in (rows_of (found_of matches.now)) }
 {
     Ok(Settings {
         plan: plan_in(matches)?,

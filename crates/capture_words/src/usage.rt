@@ -12,7 +12,7 @@ use trace_values::SourceId;
 pub const LINE_ROOM: usize = 32;
 
 /// Why words that `clap` takes are no job. The first that holds is the fault, in this order.
-#[derive(Clone, Copy, Debug, PartialEq, Eq, Drop)]
+#[derive(Clone, Copy, Drop)]
 pub enum UsageFault {
     /// The action is none of the command's.
     UnknownAction,

@@ -12,8 +12,8 @@ ghost use Rattle.capture_words.specs.Values.{pointer_in, full_in, option_in, ids
 ghost use Rattle.capture_words.specs.Values.{turn_order_in, hold_in, depth_in, hz_in, switch_named, kinds_in};
 ghost use Rattle.capture_words.specs.Choices.{AreIds};
 
-use crate::choices::{choices_named, window_named};
-use crate::ids::{sources_named, turn_order_named};
+use crate::choices::window_named;
+use crate::list::list_named;
 use crate::option::CommandOption;
 use crate::recover::Recover;
 use crate::usage::UsageFault;
@@ -174,34 +174,13 @@ pub fn packets_in(matches: &ArgMatches<'_>) -> Result<PacketsMode, UsageFault>
     }
 }
 
-/// The source that an option names, from `least` to `greatest`, if it is given.
-fn id_given(
-    matches: &ArgMatches<'_>,
-    option: CommandOption,
-    least: u8,
-    greatest: u8,
-) -> Result<Option<SourceId>, UsageFault>
-    requires { greatest ≤ 126 }
-    ensures value { result ≡ number_if_given option least greatest (rows_of (found_of matches.now)) }
-    ensures in_range { IfOk result (λ id. IfSome id (λ n. (least ≤ n) × (n ≤ greatest))) }
-{
-    match text_of(matches, option) {
-        None => Ok(None),
-        Some(text) => match id_named(least, greatest, text) {
-            Some(id) => Ok(Some(id)),
-            None => Err(UsageFault::BadValue(option)),
-        },
-    }
-}
-
 /// The sources of an option, one to eight from 1 to 111, or none where it is absent.
 fn ids_given(matches: &ArgMatches<'_>, option: CommandOption) -> Result<SourceIds, UsageFault>
-    ensures value { result ≡ option_in option [] (ids_named 8 111) (rows_of (found_of matches.now)) }
-    ensures in_range { IfOk result (All (λ n. (1 ≤ n) × (n ≤ 111))) }
+    ensures { result ≡ option_in option [] (ids_named 8 111) (rows_of (found_of matches.now)) }
 {
     match text_of(matches, option) {
         None => Ok(SourceIds::new()),
-        Some(text) => match sources_named(text) {
+        Some(text) => match list_named(text) {
             Some(ids) => Ok(ids),
             None => Err(UsageFault::BadValue(option)),
         },
@@ -210,16 +189,14 @@ fn ids_given(matches: &ArgMatches<'_>, option: CommandOption) -> Result<SourceId
 
 /// The sources that send ITM packets, one to eight from 1 to 111, or none where the option is absent.
 pub fn itm_in(matches: &ArgMatches<'_>) -> Result<SourceIds, UsageFault>
-    ensures value { result ≡ itm_in (rows_of (found_of matches.now)) }
-    ensures in_range { IfOk result (All (λ n. (1 ≤ n) × (n ≤ 111))) }
+    ensures { result ≡ itm_in (rows_of (found_of matches.now)) }
 {
     ids_given(matches, CommandOption::Itm)
 }
 
 /// The sources that send STP packets, one to eight from 1 to 111, or none where the option is absent.
 pub fn stp_in(matches: &ArgMatches<'_>) -> Result<SourceIds, UsageFault>
-    ensures value { result ≡ stp_in (rows_of (found_of matches.now)) }
-    ensures in_range { IfOk result (All (λ n. (1 ≤ n) × (n ≤ 111))) }
+    ensures { result ≡ stp_in (rows_of (found_of matches.now)) }
 {
     ids_given(matches, CommandOption::Stp)
 }
@@ -238,7 +215,13 @@ pub fn order_in(matches: &ArgMatches<'_>) -> Result<Order, UsageFault>
 pub fn id_in(matches: &ArgMatches<'_>) -> Result<Option<SourceId>, UsageFault>
     ensures { result ≡ id_in (rows_of (found_of matches.now)) }
 {
-    id_given(matches, CommandOption::Id, 0, 126)
+    match text_of(matches, CommandOption::Id) {
+        None => Ok(None),
+        Some(text) => match id_named(0, 126, text) {
+            Some(id) => Ok(Some(id)),
+            None => Err(UsageFault::BadValue(CommandOption::Id)),
+        },
+    }
 }
 
 /// Which events are listed, if choices are given.
@@ -247,7 +230,7 @@ pub fn only_in(matches: &ArgMatches<'_>) -> Result<Option<Choices>, UsageFault>
 {
     match text_of(matches, CommandOption::Only) {
         None => Ok(None),
-        Some(text) => match choices_named(text) {
+        Some(text) => match list_named(text) {
             Some(choices) => Ok(Some(choices)),
             None => Err(UsageFault::BadValue(CommandOption::Only)),
         },
@@ -291,16 +274,14 @@ fn number_given(
 /// How many frames are written for each full synchronisation: 0, which is none, to 1,000,000, and 64 where it is
 /// absent.
 pub fn sync_in(matches: &ArgMatches<'_>) -> Result<u32, UsageFault>
-    ensures value { result ≡ sync_in (rows_of (found_of matches.now)) }
-    ensures in_range { IfOk result (λ n. n ≤ GREATEST_SYNC) }
+    ensures { result ≡ sync_in (rows_of (found_of matches.now)) }
 {
     number_given(matches, CommandOption::Sync, DEFAULT_SYNC, 0, GREATEST_SYNC)
 }
 
 /// How many half synchronisations are written in each gap of a frame: 0 to 8, and 0 where it is absent.
 pub fn half_in(matches: &ArgMatches<'_>) -> Result<u8, UsageFault>
-    ensures value { result ≡ half_in (rows_of (found_of matches.now)) }
-    ensures in_range { IfOk result (λ n. n ≤ GREATEST_HALF) }
+    ensures { result ≡ half_in (rows_of (found_of matches.now)) }
 {
     let halves = number_given(matches, CommandOption::Half, 0, 0, u32::from(GREATEST_HALF))?;
     Ok(halves as u8)
@@ -308,8 +289,7 @@ pub fn half_in(matches: &ArgMatches<'_>) -> Result<u8, UsageFault>
 
 /// How many items are made: 1 to 1,000,000, and 12,000 where it is absent.
 pub fn items_in(matches: &ArgMatches<'_>) -> Result<u32, UsageFault>
-    ensures value { result ≡ items_in (rows_of (found_of matches.now)) }
-    ensures in_range { IfOk result (λ n. (1 ≤ n) × (n ≤ GREATEST_ITEMS)) }
+    ensures { result ≡ items_in (rows_of (found_of matches.now)) }
 {
     number_given(
         matches,
@@ -322,8 +302,7 @@ pub fn items_in(matches: &ArgMatches<'_>) -> Result<u32, UsageFault>
 
 /// How many bytes are lost of the front of what is made: 0 to 1,000,000, and 0 where it is absent.
 pub fn lose_in(matches: &ArgMatches<'_>) -> Result<u32, UsageFault>
-    ensures value { result ≡ lose_in (rows_of (found_of matches.now)) }
-    ensures in_range { IfOk result (λ n. n ≤ GREATEST_LOSS) }
+    ensures { result ≡ lose_in (rows_of (found_of matches.now)) }
 {
     number_given(matches, CommandOption::Lose, 0, 0, GREATEST_LOSS)
 }
@@ -340,8 +319,7 @@ pub fn recover_in(matches: &ArgMatches<'_>) -> Result<Recover, UsageFault>
 
 /// How many bytes a trace buffer has, 16 to 16,777,216, if that is given.
 pub fn size_in(matches: &ArgMatches<'_>) -> Result<Option<usize>, UsageFault>
-    ensures value { result ≡ size_in (rows_of (found_of matches.now)) }
-    ensures in_range { IfOk result (λ size. IfSome size (λ n. (LEAST_SIZE ≤ n) × (n ≤ GREATEST_SIZE))) }
+    ensures { result ≡ size_in (rows_of (found_of matches.now)) }
 {
     match text_of(matches, CommandOption::Size) {
         None => Ok(None),
@@ -372,12 +350,11 @@ pub fn full_in(matches: &ArgMatches<'_>) -> Result<bool, UsageFault>
 
 /// The sources of a funnel in the order of their turns, one to sixteen from 1 to 126, if they are given.
 pub fn turn_order_in(matches: &ArgMatches<'_>) -> Result<Option<TurnOrder>, UsageFault>
-    ensures value { result ≡ turn_order_in (rows_of (found_of matches.now)) }
-    ensures in_range { IfOk result (λ order. IfSome order (AreIds 16 126)) }
+    ensures { result ≡ turn_order_in (rows_of (found_of matches.now)) }
 {
     match text_of(matches, CommandOption::Order) {
         None => Ok(None),
-        Some(text) => match turn_order_named(text) {
+        Some(text) => match list_named(text) {
             Some(order) => Ok(Some(order)),
             None => Err(UsageFault::BadValue(CommandOption::Order)),
         },
@@ -386,8 +363,7 @@ pub fn turn_order_in(matches: &ArgMatches<'_>) -> Result<Option<TurnOrder>, Usag
 
 /// How many bytes a source of a funnel gives in its turn at most: 1 to 15, and 4 where it is absent.
 pub fn hold_in(matches: &ArgMatches<'_>) -> Result<u8, UsageFault>
-    ensures value { result ≡ hold_in (rows_of (found_of matches.now)) }
-    ensures in_range { IfOk result (λ n. (1 ≤ n) × (n ≤ 15)) }
+    ensures { result ≡ hold_in (rows_of (found_of matches.now)) }
 {
     let hold = number_given(
         matches,
@@ -401,8 +377,7 @@ pub fn hold_in(matches: &ArgMatches<'_>) -> Result<u8, UsageFault>
 
 /// How many bytes each queue of a funnel has at most: 1 to 4,096, and 256 where it is absent.
 pub fn depth_in(matches: &ArgMatches<'_>) -> Result<usize, UsageFault>
-    ensures value { result ≡ depth_in (rows_of (found_of matches.now)) }
-    ensures in_range { IfOk result (λ n. (1 ≤ n) × (n ≤ 4096)) }
+    ensures { result ≡ depth_in (rows_of (found_of matches.now)) }
 {
     let depth = number_given(
         matches,
@@ -416,8 +391,7 @@ pub fn depth_in(matches: &ArgMatches<'_>) -> Result<usize, UsageFault>
 
 /// The stimulus port whose bytes are written: 0 to 31, and 0 where it is absent.
 pub fn port_in(matches: &ArgMatches<'_>) -> Result<u8, UsageFault>
-    ensures value { result ≡ port_in (rows_of (found_of matches.now)) }
-    ensures in_range { IfOk result (λ n. n ≤ GREATEST_PORT) }
+    ensures { result ≡ port_in (rows_of (found_of matches.now)) }
 {
     let port = number_given(matches, CommandOption::Port, 0, 0, u32::from(GREATEST_PORT))?;
     Ok(port as u8)
@@ -425,8 +399,7 @@ pub fn port_in(matches: &ArgMatches<'_>) -> Result<u8, UsageFault>
 
 /// How many ticks of the local timestamps there are in a second, 1 to 10^12, if that is given.
 pub fn hz_in(matches: &ArgMatches<'_>) -> Result<Option<u64>, UsageFault>
-    ensures value { result ≡ hz_in (rows_of (found_of matches.now)) }
-    ensures in_range { IfOk result (λ hz. ForSome hz (λ n. 0 < n)) }
+    ensures { result ≡ hz_in (rows_of (found_of matches.now)) }
 {
     match text_of(matches, CommandOption::Hz) {
         None => Ok(None),
@@ -460,8 +433,7 @@ pub fn kinds_in(matches: &ArgMatches<'_>) -> Result<bool, UsageFault>
 
 /// How many bytes are read at most: 1 to the greatest limit, which holds where it is absent.
 pub fn limit_in(matches: &ArgMatches<'_>) -> Result<u64, UsageFault>
-    ensures value { result ≡ limit_in (rows_of (found_of matches.now)) }
-    ensures in_range { IfOk result (λ n. (1 ≤ n) × (n ≤ GREATEST_LIMIT)) }
+    ensures { result ≡ limit_in (rows_of (found_of matches.now)) }
 {
     match text_of(matches, CommandOption::Limit) {
         None => Ok(GREATEST_LIMIT),

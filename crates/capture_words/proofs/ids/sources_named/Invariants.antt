@@ -1,7 +1,0 @@
-use Rattle.std.proofs.Common.{◌≡◌, Some, take}
-use Rattle.capture_words.specs.Values.{ids_named}
-use Rattle.capture_words.proofs.ids.sources_named.Given as goal
-
--- those so far of the IDs that the text names
-abbrev pub invariant-loop-id : goal.invariant-loop-id
-invariant-loop-id l = (l.sources ≡ take l.id-index l.id-items) × (ids_named 8 111 l.text ≡ Some l.id-items)
