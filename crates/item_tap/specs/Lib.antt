@@ -1,4 +1,3 @@
 pub mod Choices
 pub mod Windows
 pub mod Seen
-pub mod Rows

@@ -3,7 +3,7 @@
 use crate::choice::Choice;
 
 /// Where a window opens and closes.
-#[derive(Clone, Copy, Debug, PartialEq, Eq, Drop)]
+#[derive(Clone, Copy, Debug, Drop)]
 pub struct Bounds {
     /// It opens at events that meet this choice.
     pub first: Choice,

@@ -12,7 +12,7 @@ use source_events::{Event, Packet};
 use trace_values::SourceId;
 
 /// A kind of events.
-#[derive(Clone, Copy, Debug, PartialEq, Eq, Drop)]
+#[derive(Clone, Copy, Debug, Drop)]
 pub enum Kind {
     /// Packets of an instrumentation trace macrocell (ITM), all but its hardware source packets.
     Itm,
@@ -27,7 +27,7 @@ pub enum Kind {
 }
 
 /// Which events are wanted. A notice of a lock is none of any choice.
-#[derive(Clone, Copy, Debug, PartialEq, Eq, Drop)]
+#[derive(Clone, Copy, Debug, Drop)]
 pub enum Choice {
     /// Those of this kind.
     OfKind(Kind),

@@ -7,7 +7,7 @@ use itm_grammar::packet::ItmPacket;
 use source_events::{Packet, What};
 
 /// What a choice sees of what an event tells. It is the same whether there is an event or only its parts.
-#[derive(Clone, Copy, Debug, PartialEq, Eq, Drop)]
+#[derive(Clone, Copy, Drop)]
 pub enum Content {
     /// The notice of a lock.
     Notice,

@@ -8,7 +8,6 @@ mod choices;
 mod comparator;
 mod content;
 pub mod laws;
-pub mod rows;
 mod rule;
 mod tap;
 mod window;

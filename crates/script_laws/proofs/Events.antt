@@ -5,13 +5,14 @@ use Rattle.std.proofs.lemmas.Bool.Decides.{nat_tests}
 use Rattle.std.proofs.lemmas.List.{map-append}
 use Rattle.std.proofs.lemmas.List.Concat.{flat_map-append}
 use Rattle.std.proofs.lemmas.List.Elements.{All-nil, All-cons, All-append}
-use Rattle.script_laws.specs.Names.{Cell, Place, Placed, units_of, Said, Kept, is_source, Event, What, Packet, Plan}
+use Rattle.script_laws.specs.Names.{Cell, Place, units_of, Said, Kept, is_source, Event, What, Packet, Plan}
 use Rattle.script_laws.specs.Names.{SourceKind, told, stream_of, sources_by, Mapped, what_of, lifted, triggers}
 use Rattle.script_laws.specs.Names.{raw_events, raws, events, id_of, bytes_of, placed_run, list_of, last_at}
 use Rattle.source_events.specs.declared.event.What.TheVariants.{Packet as PacketEvent, Raw, Trigger}
 use Rattle.source_events.specs.declared.plan.SourceKind.TheVariants.{Itm, Stp}
 use Rattle.source_events.specs.Packets.{said_as, given_as}
 use Rattle.source_events.proofs.Least.{AreSound}
+use Rattle.source_events.proofs.Locking.{units_append}
 use Rattle.script_laws.specs.ReadBack.{bytes_in, SaysBytes}
 use Rattle.script_laws.proofs.MappedIds.{is_one}
 
@@ -138,10 +139,6 @@ raw_bytes x run n = by (x == 0) (x == 125) refl
     by true w e = absurd (n (grind (arith, nat_tests)))
     by false true e = trigger_bytes run
     by false false e = run_bytes run
-
-units_append : (a b : List Placed) → units_of (a ++ b) ≡ units_of a ++ units_of b
-units_append [] b = refl
-units_append (p ∷ a) b = ap (λ (l : List ℕ). p.unit ∷ l) (units_append a b)
 
 pub raws_bytes : (x : ℕ) (runs : List (List Cell)) → x ≢ 0 → event_bytes (raws x runs) ≡ units_of (list_of x runs)
 raws_bytes x [] n = refl

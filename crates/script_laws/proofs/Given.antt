@@ -1,7 +1,7 @@
 -- Frames in which each source has the bytes that the lines of a script put read back as what the lines give.
 use Rattle.std.proofs.Common.{◌≡◌, ◌≢◌, ℕ, zero, suc, ◌≤◌, List, [], ◌∷◌, length, refl, sym, ◌∙◌, ap, subst, arith}
 use Rattle.std.proofs.Common.{true, false, Option, None, Some, map, flat_map, All}
-use Rattle.script_laws.specs.Names.{Cell, Place, Placed, units_of, placed, Aligned, Tagged, joined, written_segments}
+use Rattle.script_laws.specs.Names.{Cell, Place, Placed, placed, Aligned, Tagged, joined, written_segments}
 use Rattle.script_laws.specs.Names.{ItmPacket, packets_in, StpItem, AreFitting, Event, What, Packet, Plan, SourceKind}
 use Rattle.script_laws.specs.Names.{IsMerged, told, part, cut, kind_of, sources_by, is_sound, Mapped, events, raws}
 use Rattle.script_laws.specs.Names.{lesser, of_source, least_fault, port_events, runs_in, stop_in, capture_events}
@@ -9,6 +9,7 @@ use Rattle.script_laws.specs.Names.{list_of, tail_of, Line2, given_packets, give
 use Rattle.script_laws.specs.Names.{script_segments}
 use Rattle.trace_values.specs.declared.fault.Reason.{Reason}
 use Rattle.trace_values.specs.Nibbles.{nibbles_of}
+use Rattle.frame_grammar.proofs.Deciding.{none_before}
 use Rattle.frame_writer.specs.ReadBack as framed
 use Rattle.frame_writer.proofs.ReadingBack.{written_reads}
 use Rattle.stp_codec.specs.Reading.{items_in}
@@ -37,10 +38,6 @@ use Rattle.script_laws.proofs.Events.{raws_bytes, raws_plain, raws_none, raws_nu
 not_null : (x : ℕ) → 1 ≤ x → x ≢ 0
 not_null zero l = absurd (omega arith)
 not_null (suc x) l = λ e. (let k : suc x ≡ 0 = e in cc)
-
-no_units : (u : List Placed) → units_of u ≡ [] → u ≡ []
-no_units [] e = refl
-no_units (p ∷ u) e = cc
 
 no_whats : (es : List (Event Packet)) → map (λ (e : Event Packet). e.what) es ≡ [] → es ≡ []
 no_whats [] e = refl
@@ -132,7 +129,7 @@ module _ (every halves : ℕ) (plan : Plan) (lines : List Line2) (sound : is_sou
       ∙ list_bytes capture bytes law x (not_null x l) ∙ kept x ∙ raw_bytes plan x sound lines good k
 
   no_list : (x : ℕ) → 1 ≤ x → has_line x lines ≡ false → list_of x runs ≡ []
-  no_list x l e = no_units (list_of x runs) (list_bytes capture bytes law x (not_null x l) ∙ kept x ∙ none_bytes plan x sound lines good e)
+  no_list x l e = none_before (list_of x runs) (list_bytes capture bytes law x (not_null x l) ∙ kept x ∙ none_bytes plan x sound lines good e)
 
   unsaid : (x : ℕ) → has_line x lines ≡ false → said_of plan u x ≡ []
   unsaid x e = by (kind_of plan x) refl

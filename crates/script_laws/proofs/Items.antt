@@ -36,7 +36,7 @@ use Rattle.dwt_packets.proofs.FirstRow.{no_row}
 use Rattle.stp_grammar.specs.declared.packet.Width.TheVariants as widths
 use Rattle.stp_grammar.specs.declared.item.Stamp.TheVariants.{None as NoStamp, Raw as RawStamp}
 use Rattle.script_text.proofs.Options.{some_of, chosen_some}
-use Rattle.script_text.proofs.Ranges.{unnamed_is}
+use Rattle.script_text.proofs.Ranges.{unnamed_is, value_small as size_small}
 use Rattle.script_laws.proofs.Fields.{row_words}
 
 -- the shape of an item, and its values
@@ -256,10 +256,6 @@ other_words : (item : DwtItem) (d : ℕ) (s : Size) (v : ℕ) → unnamed item �
 other_words (dwt.Other disc size value) d s v u e =
     ap (λ (p : ℕ × Size × ℕ). row_words (dwt_row (dwt_shapes.Other p.1)) (p.0, (p.2, tt))) (sym e)
 other_words item d s v u e = cc
-
-size_small : (size : Size) (value : ℕ) → value < 16 ^ (2 * byte_count size) → value < 256 ^ byte_count size
-size_small One value h = omega arith
-size_small size value h = omega arith
 
 pub dwt_back : (shape : DwtShape) (values : Values (fields_in (dwt_row shape))) (item : DwtItem) →
     AllFit (fields_in (dwt_row shape)) values →

@@ -2,11 +2,12 @@
 use Rattle.std.proofs.Common.{◌≡◌, ◌≤◌, ℕ, List, [], ◌∷◌, ◌++◌, refl, sym, ◌∙◌, ap, append_assoc, append-nil, true}
 use Rattle.std.proofs.Common.{cond, ◌==◌}
 use Rattle.std.proofs.lemmas.List.{map-append}
-use Rattle.script_laws.specs.Names.{Tagged, joined, Act, Offer, Turn, Drain, offers, offered, are_of}
+use Rattle.script_laws.specs.Names.{Tagged, joined, Act, Drain, offers, offered, are_of}
 use Rattle.script_laws.specs.Names.{bytes_for as given_for, are_apart, to_funnel, from_funnel, whole_acts, act_by}
 use Rattle.script_laws.specs.Names.{passed_from, all_passed, Turns}
 use Rattle.script_laws.proofs.Bytes.{bytes_for}
-use Rattle.trace_funnel.proofs.Acting.{acts_append, all_given}
+use Rattle.port_formatter.specs.PassedLaws.{from_more}
+use Rattle.trace_funnel.proofs.Acting.{acts_append, all_given, offered_drain}
 use Rattle.trace_funnel.specs.Turns.{Place, Turned, empty}
 use Rattle.trace_funnel.specs.declared.tagged.Tagged.{Tagged as Given}
 
@@ -30,9 +31,6 @@ offered_offers (b ∷ bytes) done = ap (λ (l : List Given). b ∷ l) (offered_o
 
 to_more : (a b : List Tagged) → to_funnel (a ++ b) ≡ to_funnel a ++ to_funnel b
 to_more a b = map-append (λ x. record { id = x.id; byte = x.byte }) a b
-
-from_more : (a b : List Given) → from_funnel (a ++ b) ≡ from_funnel a ++ from_funnel b
-from_more a b = map-append (λ x. record { id = x.id; byte = x.byte }) a b
 
 whole_then : (segment : List Tagged) (done : List Act) →
     whole_acts segment ++ done ≡ offers (to_funnel segment) ++ (Drain ∷ done)
@@ -68,12 +66,6 @@ drained_last segment (next ∷ rest) =
           ∙ sym (append_assoc (whole_acts segment) more.0 (Drain ∷ [])),
     )
 
-offered_last : (done : List Act) → offered (done ++ Drain ∷ []) ≡ offered done
-offered_last [] = refl
-offered_last (Offer x ∷ done) = ap (λ (l : List Given). x ∷ l) (offered_last done)
-offered_last (Turn ∷ done) = offered_last done
-offered_last (Drain ∷ done) = offered_last done
-
 pub all_kept : (t : Turns) (segments : List (List Tagged)) → 1 ≤ t.hold → are_apart t.order ≡ true →
     are_of t.order (to_funnel (joined segments)) ≡ true → (x : ℕ) →
     bytes_for x (joined (all_passed t segments)) ≡ bytes_for x (joined segments)
@@ -82,7 +74,7 @@ all_kept t (segment ∷ rest) some apart of x =
     let segments = segment ∷ rest in
     let last = drained_last segment rest in
     let put : offered last.0 ≡ to_funnel (joined segments) =
-    sym (offered_last last.0) ∙ ap offered (sym last.1) ∙ offered_all segments in
+    sym (offered_drain last.0) ∙ ap offered (sym last.1) ∙ offered_all segments in
     ap (bytes_for x) (joined_passed t (empty t.order) segments)
     ∙ from_same x (act_by t (empty t.order) (all_acts segments)).out
     ∙ ap (λ (l : List Act). given_for x (act_by t (empty t.order) l).out) last.1

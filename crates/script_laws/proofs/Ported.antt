@@ -8,6 +8,7 @@ use Rattle.script_laws.specs.Names.{IsOfSource, Tagged, joined, written_segments
 use Rattle.script_laws.specs.Names.{are_placed, placed_front, script_segments, script_of, RebuildPlan, Of, Line2, One}
 use Rattle.script_laws.specs.Names.{Trigger, is_sound, Plan, are_of, placed, Turns, to_funnel, all_passed, IsSaid2}
 use Rattle.script_text.proofs.Hexadecimals.{and_left, and_right}
+use Rattle.trace_funnel.proofs.Counting.{none_of_both}
 use Rattle.script_laws.proofs.Bytes.{bytes_for, for_append, none_bytes}
 use Rattle.script_laws.proofs.Given.{any_reads_as_given}
 use Rattle.script_laws.specs.Puts.{CanAllBePut}
@@ -100,10 +101,6 @@ inside (b ∷ bytes) none =
     by : (v : Bool) → in_range b.id ≡ v → IsOfSource b
     by true h = record { named = grind (arith, nat_tests); in_range = grind (arith, nat_tests) }
     by false h = absurd (first_none b bytes (none b.id h))
-
-none_of_both : (a b : List ℕ) → a ++ b ≡ [] → (a ≡ []) × (b ≡ [])
-none_of_both [] b e = (refl, e)
-none_of_both (y ∷ a) b e = absurd (let no = e in cc)
 
 abbrev AreNamed : List (List Tagged) → Type 0
 AreNamed segments = All (λ (bytes : List Tagged). All IsOfSource bytes) segments

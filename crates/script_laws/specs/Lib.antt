@@ -3,4 +3,3 @@ pub mod Lowered
 pub mod Reading
 pub mod Puts
 pub mod ReadBack
-pub mod Rows

@@ -7,7 +7,6 @@ pub use Rattle.dwt_packets.specs.declared.item.DwtItem.{DwtItem}
 pub use Rattle.frame_grammar.specs.Reading.{is_source, source_list}
 pub use Rattle.frame_writer.specs.ReadBack.{IsOfSource, ReadsBack, as_seen, seen, source_cells}
 pub use Rattle.frame_writer.specs.Written.{Tagged, joined, written_segments}
-unfoldable pub use Rattle.frame_writer.specs.Written.{filled, frame_bytes, frames_by}
 pub use Rattle.itm_codec.specs.Reading.{packets_in}
 pub use Rattle.itm_grammar.specs.Proper.{IsProper, first_bits, second_bits}
 pub use Rattle.itm_grammar.specs.Shortest.{short}
@@ -21,8 +20,7 @@ pub use Rattle.script_rebuild.specs.Script.{by_item, bytes_by, ends_with, given_
 pub use Rattle.script_rebuild.specs.Script.{given_puts, item_bytes, items_by, items_of, packets_by, packets_of, puts_by}
 pub use Rattle.script_rebuild.specs.Script.{raw_of, tagged}
 unfoldable pub use Rattle.script_rebuild.specs.Script.{in_order}
-pub use Rattle.script_rebuild.specs.Segments.{after_line, line_bytes, script_segments, segments_after, segments_of}
-pub use Rattle.script_rebuild.specs.Segments.{with_line}
+pub use Rattle.script_rebuild.specs.Segments.{line_bytes, script_segments, segments_of}
 pub use Rattle.script_rebuild.specs.Versions.{Reading, fitting, fitting_item, fitting_one, header, lines_in, read_in}
 pub use Rattle.script_rebuild.specs.Versions.{read_on, read_texts, says, says_one, script_of, version_after}
 pub use Rattle.script_rebuild.specs.Versions.{version_then}
@@ -76,15 +74,13 @@ pub use Rattle.source_events.specs.declared.plan.SourceKind.{SourceKind}
 pub use Rattle.stp_encoder.specs.Bytes.{encoded, end_bytes, nibbles_after, written}
 unfoldable pub use Rattle.stp_encoder.specs.Bytes.{nibbles_for}
 pub use Rattle.stp_encoder.specs.Fitting.{AreFitting, is_unfit}
-unfoldable pub use Rattle.stp_encoder.specs.Packets.{packets_for, shortest_stamp}
-unfoldable pub use Rattle.stp_grammar.specs.Attribution.{channel_of, last_word_of, master_of, version_of}
+unfoldable pub use Rattle.stp_encoder.specs.Packets.{packets_for}
 pub use Rattle.stp_grammar.specs.Proper.{IsProperItem, IsProperStamp, bits_of}
 pub use Rattle.stp_grammar.specs.declared.item.Stamp.{Stamp}
 pub use Rattle.stp_grammar.specs.declared.item.Stamp.TheVariants.{Gray, Natural}
 pub use Rattle.stp_grammar.specs.declared.item.StpItem.{StpItem}
 pub use Rattle.stp_grammar.specs.declared.packet.Width.TheVariants.{Eight, Sixteen, SixtyFour, ThirtyTwo}
 pub use Rattle.trace_clock.specs.LastWord.{WordFits, nibble_at, nibble_count}
-unfoldable pub use Rattle.trace_clock.specs.LastWord.{last_word}
 pub use Rattle.trace_funnel.specs.Acts.{Act, Drain, Offer, Turn, are_of, offered, offers}
 pub use Rattle.trace_funnel.specs.Kept.{bytes_for}
 pub use Rattle.trace_funnel.specs.Order.{are_apart}

@@ -5,4 +5,3 @@
 pub mod funnel_laws;
 pub mod line_laws;
 pub mod rebuild_laws;
-pub mod rows;

@@ -1,5 +1,5 @@
 -- The encoders of system traces, of which one writes an item.
-use Rattle.std.proofs.Common.{◌≡◌, ◌≢◌, ℕ, zero, suc, ◌+◌, ◌<◌, ◌≤◌, ◌-◌, add-zero, List, [], ◌∷◌, ◌++◌, refl, sym, ap}
+use Rattle.std.proofs.Common.{◌≡◌, ◌≢◌, ℕ, zero, suc, ◌+◌, ◌<◌, ◌≤◌, ◌-◌, List, [], ◌∷◌, ◌++◌, refl, sym, ap}
 use Rattle.std.proofs.Common.{◌∙◌, subst, arith, Bool, true, false, None, Some, length, get_or, set, take, append-nil}
 use Rattle.std.proofs.Common.{◌==◌, ◌||◌, if◌then◌else◌, cond, nat_lt, inl, inr, All, position, filter}
 use Rattle.std.specs.List.{list_any, position_or_len, refill, range_with_len}
@@ -12,6 +12,7 @@ use Rattle.std.proofs.lemmas.List.Elements.{All-push, filter-append}
 use Rattle.std.proofs.lemmas.List.Folds.{list_any_none}
 use Rattle.std.proofs.lemmas.List.Quantifiers.{position-Some}
 use Rattle.std.proofs.lemmas.List.Sums.{fails_before_first}
+use Rattle.frame_grammar.proofs.CellLaws.{range_push}
 use Rattle.script_rebuild.specs.Names.{Order, StpItem, Put, unmarked, Stp}
 use Rattle.stp_encoder.specs.Puts.{Of as PutOf}
 use Rattle.stp_encoder.specs.Encoder as encoders
@@ -129,17 +130,12 @@ module _ (order : Order) (slots : List SourceEncoder) (given : ℕ → List Put)
 
 -- == The making of them
 
-range_more : (a n : ℕ) → range_with_len a (suc n) ≡ range_with_len a n ++ (a + n) ∷ []
-range_more a zero = ap (λ (m : ℕ). m ∷ []) (sym (add-zero a))
-range_more a (suc n) =
-    ap (λ (l : List ℕ). a ∷ l) (range_more (a + 1) n) ∙ ap (λ (m : ℕ). a ∷ (range_with_len (a + 1) n ++ m ∷ [])) (let e : a + 1 + n ≡ a + suc n = omega arith in e)
-
 next_kept : (ids : List ℕ) (number : ℕ) → 1 ≤ number →
     filter (among ids) (range_with_len 1 (number + 1 - 1))
     ≡ filter (among ids) (range_with_len 1 (number - 1)) ++ (if among ids number then number ∷ [] else [])
 next_kept ids number h =
     ap (λ (n : ℕ). filter (among ids) (range_with_len 1 n)) (let e : number + 1 - 1 ≡ suc (number - 1) = omega (arith, h) in e)
-    ∙ ap (filter (among ids)) (range_more 1 (number - 1))
+    ∙ ap (filter (among ids)) (range_push 1 (number - 1))
     ∙ filter-append (among ids) (range_with_len 1 (number - 1)) ((1 + (number - 1)) ∷ [])
     ∙ ap (λ (n : ℕ). filter (among ids) (range_with_len 1 (number - 1)) ++ (if among ids n then n ∷ [] else [])) (let e : 1 + (number - 1) ≡ number = omega (arith, h) in e)
 

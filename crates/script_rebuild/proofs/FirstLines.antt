@@ -6,20 +6,17 @@ use Rattle.std.proofs.lemmas.List.Elements.{All-cons, All-nil}
 use Rattle.std.proofs.lemmas.Bool.Decides.{nat_tests}
 use Rattle.script_rebuild.specs.Names.{PacketLine, IsFirstLine, IsPacketOf}
 use Rattle.script_text.specs.Words.{are_printable}
+use Rattle.script_text.proofs.Hexadecimals.{and_right}
 
 no_line_feed : (b : ℕ) (rest : Bool) → ((nat_le 32 b && nat_le b 126) && rest) ≡ true → (b == 10) ≡ false
 no_line_feed b true h = grind (arith, nat_tests)
 no_line_feed b false h = grind (arith, nat_tests)
 
-after_first : (a b : Bool) → (a && b) ≡ true → b ≡ true
-after_first true b h = h
-after_first false b h = cc
-
 printable_plain : (text : List ℕ) → are_printable text ≡ true → All (λ b. (b == 10) ≡ false) text
 printable_plain [] h = All-nil (λ b. (b == 10) ≡ false)
 printable_plain (b ∷ text) h =
     All-cons (λ b. (b == 10) ≡ false) b text (no_line_feed b (are_printable text) h)
-    (printable_plain text (after_first (nat_le 32 b && nat_le b 126) (are_printable text) h))
+    (printable_plain text (and_right (nat_le 32 b && nat_le b 126) (are_printable text) h))
 
 module _ (piece : List ℕ) (line : PacketLine) (first : IsFirstLine piece line) where
   text_is : take line.bytes piece ≡ first.text

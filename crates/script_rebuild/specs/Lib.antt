@@ -6,7 +6,6 @@ pub mod Routed
 pub mod Encoding
 pub mod Writer
 pub mod ScriptLaws
-pub mod Rows
 pub mod Rebuilt
 pub mod SplitLaws
 pub mod ReadingLaws

@@ -7,7 +7,6 @@ mod encoders;
 pub mod laws;
 mod plan;
 mod rebuild;
-pub mod rows;
 mod version;
 mod writer;
 

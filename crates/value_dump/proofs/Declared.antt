@@ -1,7 +1,7 @@
 -- The declarations in the code are those that are defined.
 use Rattle.std.proofs.Common.{◌≡◌, length, refl}
 use Rattle.value_dump.specs.Header.{declarations}
-use Rattle.value_dump.specs.Rows.{digits}
+use Rattle.std.specs.Fmt.{digits}
 use Rattle.value_dump.specs.declared.header.TheConstants.{DECLARATIONS}
 
 pub declared : DECLARATIONS.now ≡ declarations

@@ -9,6 +9,7 @@ use Rattle.std.proofs.lemmas.Bool.Decides.{nat_tests}
 use Rattle.std.proofs.lemmas.Grind.{flat_map-append}
 use Rattle.std.proofs.lemmas.List.Sums.{sum_by-append}
 use Rattle.itm_grammar.specs.declared.packet.Lateness.{Lateness}
+use Rattle.capture_actions.proofs.Timing.{deltas_push}
 use Rattle.value_dump.specs.Names.{ItmPacket, Local, deltas_in}
 use Rattle.value_dump.specs.Dump.{changes, is_local, up_to_stamp}
 use Rattle.value_dump.specs.Signals.{is_overflow, last_told, lost_by, told_by, value_after}
@@ -116,13 +117,6 @@ stamp_other [] packet h = ap (λ (t : Bool). cond t (packet ∷ []) []) (any_oth
 stamp_other (p ∷ packets) packet h =
     ap (λ (t : Bool). cond t (p ∷ up_to_stamp (packets ++ packet ∷ [])) []) (any_other (p ∷ packets) packet h)
     ∙ ap (λ (l : List ItmPacket). cond (list_any is_local (p ∷ packets)) (p ∷ l) []) (stamp_other packets packet h)
-
--- the ticks
-pub deltas_push : (packets : List ItmPacket) (packet : ItmPacket) →
-    flat_map deltas_in (packets ++ packet ∷ []) ≡ flat_map deltas_in packets ++ deltas_in packet
-deltas_push packets packet =
-    flat_map-append deltas_in packets (packet ∷ [])
-    ∙ ap (λ (l : List ℕ). flat_map deltas_in packets ++ l) (append-nil (deltas_in packet))
 
 -- the lines of values that are the same
 pub changes_same : (old old2 new new2 : ℕ → Option ℕ) → ((n : ℕ) → old n ≡ old2 n) → ((n : ℕ) → new n ≡ new2 n) →

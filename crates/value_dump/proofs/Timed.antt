@@ -43,10 +43,6 @@ some_line number value = by (is_bit number) where
   by true = some_before (binary value) (code_of number) (10 ∷ [])
   by false = refl
 
-pub timed_some : (time : ℕ) (lines : List ℕ) → are_some lines ≡ true → timed time lines ≡ time_line time ++ lines
-timed_some time [] h = cc
-timed_some time (byte ∷ lines) h = refl
-
 -- the lines of one more signal
 pub next_lines : (count : ℕ) (old new : ℕ → Option ℕ) →
     changes_of (count + 1) old new ≡ changes_of count old new ++ change count (old count) (new count)

@@ -11,4 +11,3 @@ pub mod SourceDumpLaws
 pub mod Vcd
 pub mod VcdLaws
 pub mod VcdStands
-pub mod Rows

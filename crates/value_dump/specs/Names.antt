@@ -13,7 +13,6 @@ pub use Rattle.dwt_packets.specs.declared.item.DwtItem.TheVariants.{Exception, S
 pub use Rattle.itm_grammar.specs.Proper.{IsProper}
 pub use Rattle.itm_grammar.specs.declared.packet.ItmPacket.{ItmPacket}
 pub use Rattle.itm_grammar.specs.declared.packet.ItmPacket.TheVariants.{Software, Hardware, Overflow, Local}
-pub use Rattle.source_events.specs.Fitting.{EventFits, PacketFits}
 pub use Rattle.source_events.specs.declared.packet.Packet.TheVariants.{Itm}
 pub use Rattle.source_merge.specs.Engine.{is_live}
 pub use Rattle.trace_stream.specs.declared.action.TheConstants.{ACTION_ROOM}

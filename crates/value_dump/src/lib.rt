@@ -6,7 +6,6 @@ mod dump;
 mod header;
 pub mod laws;
 mod lines;
-pub mod rows;
 mod signals;
 mod source_dump;
 mod telling;

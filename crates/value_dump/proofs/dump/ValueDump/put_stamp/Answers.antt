@@ -5,7 +5,8 @@ use Rattle.value_dump.specs.Lines.{nanoseconds, timed}
 use Rattle.value_dump.specs.Names.{ItmPacket, Local, deltas_in, local_after}
 use Rattle.value_dump.specs.Signals.{value_after}
 use Rattle.value_dump.specs.Values.{latest_of, stamped_of}
-use Rattle.value_dump.proofs.Packets.{changes_same, deltas_push, stamp_local, value_stamp}
+use Rattle.capture_actions.proofs.Timing.{deltas_push}
+use Rattle.value_dump.proofs.Packets.{changes_same, stamp_local, value_stamp}
 use Rattle.value_dump.proofs.dump.ValueDump.put_stamp.Goals as goal
 
 pub returns-clause-stands : goal.returns-clause-stands
