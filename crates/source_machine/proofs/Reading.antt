@@ -1,12 +1,13 @@
 -- What the machine of a source reads its bytes as.
 use Rattle.std.proofs.Common.{◌≡◌, ◌∙◌, List, Bool, ap, refl}
 use Rattle.source_machine.specs.Names.{Placed, Stream, ItmPacket, ItmDecoder, packets_in, Order, StpDecoder, items_in}
-use Rattle.source_machine.specs.Names.{Itm as ItmKind, Stp as StpKind, items_at, stream_as}
+use Rattle.source_machine.specs.Names.{Itm as ItmKind, Stp as StpKind, stream_as}
 use Rattle.itm_codec.specs.Decoder as itm
 use Rattle.stp_codec.specs.Decoder as stp
 use Rattle.source_machine.specs.declared.machine.SourceMachine.TheVariants.{Itm, Stp}
 use Rattle.source_machine.specs.Machine.{reading_of}
-use Rattle.source_machine.specs.Units.{ReadsAlike}
+use Rattle.source_events.specs.declared.plan.SourceKind.TheVariants.{Stp as StpSource}
+use Rattle.source_machine.specs.Units.{ReadsAlike, reading_on, reads_by}
 
 -- a source reads the same while its decoder does
 pub itm_same : (old new : ItmDecoder) → packets_in (itm.is_hunter new) ≡ packets_in (itm.is_hunter old) →
@@ -24,12 +25,17 @@ pub itm_alike : (old new : ItmDecoder) → packets_in (itm.is_hunter new) ≡ pa
     ReadsAlike (Itm old) (Itm new)
 itm_alike old new e = record { kind = refl; any = refl; own = itm_same old new e }
 
+-- those of an STP source by the order of its nibbles, and by whether it hunts
+pub stp_order : (o p : Order) → o ≡ p → reads_by o StpSource ≡ reads_by p StpSource
+stp_order o p e = ap (λ (q : Order). reads_by q StpSource) e
+
+pub stp_mode : (o : Order) (h i : Bool) → h ≡ i → reads_by o StpSource h ≡ reads_by o StpSource i
+stp_mode o h i e = ap (reads_by o StpSource) e
+
+pub stp_own : (old new : StpDecoder) → stp.order_of new ≡ stp.order_of old → stp.is_hunter new ≡ stp.is_hunter old →
+    reading_on (Stp new) ≡ reading_on (Stp old)
+stp_own old new e f =
+    ap (λ (o : Order). reads_by o StpSource (stp.is_hunter new)) e ∙ stp_mode (stp.order_of old) _ _ f
+
 pub stp_alike : (old new : StpDecoder) → stp.Stays old new → ReadsAlike (Stp old) (Stp new)
-stp_alike old new e = record {
-  kind = refl;
-  any =
-      ap (λ (o : Order). λ (h : Bool). λ (n : List Placed). stream_as StpKind (items_at o h n)) e.0;
-  own =
-      ap (λ (o : Order). λ (n : List Placed). stream_as StpKind (items_at o (stp.is_hunter new) n)) e.0
-      ∙ ap (λ (h : Bool). λ (n : List Placed). stream_as StpKind (items_at (stp.order_of old) h n)) e.1;
-}
+stp_alike old new e = record { kind = refl; any = stp_order _ _ e.0; own = stp_own old new e.0 e.1 }

@@ -24,29 +24,24 @@ itm_takes d e n at byte s t is list g f = record {
   sound = ap (λ w. (packets_in (itm.is_hunter d) w).fault) (append-nil n) ∙ f;
 }
 
-same_taken : (at byte : ℕ) (s : Step StpItem) → taken_by at byte (step_as StpOf s) ≡ taken_by at byte s
-same_taken at byte Quiet = refl
-same_taken at byte Skipping = refl
-same_taken at byte (Item half v) = refl
-same_taken at byte (Locked skipped half v) = refl
-same_taken at byte (Faulty f) = refl
-
-same_before : (at byte : ℕ) (s : Step StpItem) → before_by at byte (step_as StpOf s) ≡ before_by at byte s
-same_before at byte Quiet = refl
-same_before at byte Skipping = refl
-same_before at byte (Item half v) = refl
-same_before at byte (Locked skipped half v) = refl
-same_before at byte (Faulty f) = refl
+-- the nibbles that an answer takes, and those before the last of them, are those of the decoder's
+same_nibbles : (at byte : ℕ) (s : Step StpItem) → (taken_by at byte (step_as StpOf s) ≡ taken_by at byte s)
+    × (before_by at byte (step_as StpOf s) ≡ before_by at byte s)
+same_nibbles at byte Quiet = (refl, refl)
+same_nibbles at byte Skipping = (refl, refl)
+same_nibbles at byte (Item half v) = (refl, refl)
+same_nibbles at byte (Locked skipped half v) = (refl, refl)
+same_nibbles at byte (Faulty f) = (refl, refl)
 
 pub stp_takes : (d e : StpDecoder) (n : List Placed) (at byte : ℕ) (s : Step StpItem) (t : Step Packet) →
     t ≡ step_as StpOf s → TakesNibbles d e n at byte s → TakesUnits (Stp d) (Stp e) n at byte t
 stp_takes d e n at byte s t is k = subst (λ x. TakesUnits (Stp d) (Stp e) n at byte x) (sym is) (record {
-  list = subst (λ w. stp.StandsAt e (n ++ w)) (sym (same_taken at byte s)) k.list;
+  list = subst (λ w. stp.StandsAt e (n ++ w)) (sym (same_nibbles at byte s).0) k.list;
   grows = subst (λ w. Grows (stream_as StpOf (items_at (stp.order_of d) (stp.is_hunter d) n))
       (stream_as StpOf (items_at (stp.order_of d) (stp.is_hunter d) (n ++ w))) at (step_as StpOf s))
-      (sym (same_taken at byte s))
+      (sym (same_nibbles at byte s).0)
       (grows_as StpOf (items_at (stp.order_of d) (stp.is_hunter d) n)
       (items_at (stp.order_of d) (stp.is_hunter d) (n ++ taken_by at byte s)) at s k.grows);
   sound = subst (λ w. (items_at (stp.order_of d) (stp.is_hunter d) (n ++ w)).fault ≡ None)
-      (sym (same_before at byte s)) k.sound;
+      (sym (same_nibbles at byte s).1) k.sound;
 })

@@ -10,17 +10,11 @@ use Rattle.source_machine.specs.Seen.{step_as}
 module _ {V W : Type 0} (f : V → W) where
   given_step : (at : ℕ) (step : Step V) → given_as f (given_by at step) ≡ given_by at (step_as f step)
   given_step at Quiet = refl
-  given_step at Skipping = refl
-  given_step at (Item half v) = refl
-  given_step at (Locked n half v) = refl
-  given_step at (Fault x) = refl
+  given_step at x = refl
 
   fault_step : (at : ℕ) (step : Step V) → fault_by at step ≡ fault_by at (step_as f step)
   fault_step at Quiet = refl
-  fault_step at Skipping = refl
-  fault_step at (Item half v) = refl
-  fault_step at (Locked n half v) = refl
-  fault_step at (Fault x) = refl
+  fault_step at x = refl
 
   hunt_step : (old new : Stream V) (at : ℕ) (step : Step V) → HuntBy old new at step →
       HuntBy (stream_as f old) (stream_as f new) at (step_as f step)

@@ -19,7 +19,7 @@ use stp_grammar::said::Said;
 use trace_values::{Found, Machine, Step, TakenAtOnce};
 
 /// What a packet says.
-#[derive(Clone, Copy, Debug, PartialEq, Eq, Drop)]
+#[derive(Clone, Copy, Drop)]
 pub enum Told {
     /// An ITM packet.
     Itm(ItmPacket),

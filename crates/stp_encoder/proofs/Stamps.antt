@@ -78,9 +78,7 @@ pub made_back : (before : List StpPacket) (plain stamped : Row) (payload : ℕ) 
 made_back before plain stamped payload make stamp a b h e = by (packed_stamp before stamp) refl where
   none : (stamp : Stamp) → packed_stamp before stamp ≡ None → stamp ≡ NoStamp
   none NoStamp f = refl
-  none (Natural time) f = cc
-  none (Gray time) f = cc
-  none (Raw size word) f = cc
+  none x f = cc
 
   by : (o : Option SizedWord) → packed_stamp before stamp ≡ o → (let p = with_stamp plain stamped payload o in item_of (before ++ p ∷ []) p ≡ Some (make (place_of before) stamp))
   by None f =

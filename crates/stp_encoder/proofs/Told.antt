@@ -81,15 +81,10 @@ named_in before place (Some m) None e f h k = let p = ap is_some e in let q = ap
 named_in before place (Some m) (Some n) e f h k = place_told before place m n e f (h.0 m e) (h.1 n f)
 
 in_force : (before : List StpPacket) (item : StpItem) → IsProperItem item → is_named (item_place item) ≡ true → IsIn (before ++ telling_place before (item_place item)) (item_place item)
-in_force before AsyncItem h k = tt
-in_force before (VersionItem version) h k = tt
 in_force before (MasterErrorItem place code) h k = named_in before place place.master place.channel refl refl h.0 k
-in_force before (GlobalErrorItem code) h k = tt
 in_force before (DatumItem place width value marked stamp) h k = named_in before place place.master place.channel refl refl h.0 k
 in_force before (FlagItem place stamp) h k = named_in before place place.master place.channel refl refl h.0 k
-in_force before (TriggerItem code stamp) h k = tt
-in_force before (FrequencyItem hertz stamp) h k = tt
-in_force before (NullStampItem stamp) h k = tt
+in_force before x h k = tt
 
 -- the packets for an item are the item
 pub item_back : (before : List StpPacket) (item : StpItem) → IsProperItem item → is_unfit (version_of before) item ≡ false → told before (packets_with before item) ≡ item ∷ []

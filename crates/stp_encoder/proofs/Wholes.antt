@@ -4,7 +4,7 @@ use Rattle.std.proofs.lemmas.List.Elements.{All-nil, All-append}
 use Rattle.std.specs.Option.{ForSome}
 use Rattle.std.specs.List.{All}
 use Rattle.stp_encoder.specs.Names.{SizedWord, Order, Width, Row, Master8, Master16, Channel8, Channel16, StpPacket}
-use Rattle.stp_encoder.specs.Names.{Place, Stamp, None as NoStamp, Natural, Gray, Raw, StpItem, Async as AsyncItem}
+use Rattle.stp_encoder.specs.Names.{Place, Stamp, None as NoStamp, StpItem, Async as AsyncItem}
 use Rattle.stp_encoder.specs.Names.{Version as VersionItem, MasterError as MasterErrorItem}
 use Rattle.stp_encoder.specs.Names.{GlobalError as GlobalErrorItem, Datum as DatumItem, Flag as FlagItem}
 use Rattle.stp_encoder.specs.Names.{Trigger as TriggerItem, Frequency as FrequencyItem, NullStamp as NullStampItem}
@@ -95,20 +95,13 @@ own_whole before (FrequencyItem hertz stamp) h e =
 own_whole before (NullStampItem stamp) h e = made_whole before NullStamp NullStamp 0 (λ z s. NullStampItem s) stamp makes_null makes_null h (λ n. absurd (none stamp e n)) refl where
   none : (stamp : Stamp) → has_content (NullStampItem stamp) ≡ true → packed_stamp before stamp ≡ None → ⊥
   none NoStamp e n = cc
-  none (Natural time) e n = cc
-  none (Gray time) e n = cc
-  none (Raw size word) e n = cc
+  none x e n = cc
 
 place_in_whole : (before : List StpPacket) (item : StpItem) → IsProperItem item → AreWhole (telling_place before (item_place item))
-place_in_whole before AsyncItem h = tt
-place_in_whole before (VersionItem version) h = tt
 place_in_whole before (MasterErrorItem place code) h = place_whole before place h.0
-place_in_whole before (GlobalErrorItem code) h = tt
 place_in_whole before (DatumItem place width value marked stamp) h = place_whole before place h.0
 place_in_whole before (FlagItem place stamp) h = place_whole before place h.0
-place_in_whole before (TriggerItem code stamp) h = tt
-place_in_whole before (FrequencyItem hertz stamp) h = tt
-place_in_whole before (NullStampItem stamp) h = tt
+place_in_whole before x h = tt
 
 whole_from : (all done items : List StpItem) → AreFitting all → all ≡ done ++ items → AreWhole (packets_for done) → AreWhole (packets_after (packets_for done) items)
 whole_from all done [] h e k = k

@@ -6,4 +6,3 @@ pub mod Bytes
 pub mod Joined
 pub mod Encoder
 pub mod ReadBack
-pub mod Rows

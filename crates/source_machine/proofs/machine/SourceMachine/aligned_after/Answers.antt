@@ -3,18 +3,15 @@ use Rattle.source_machine.specs.Names.{Itm, Order, Placed, Stp, given_as, items_
 use Rattle.source_machine.specs.Names.{stream_as}
 use Rattle.source_machine.specs.Units.{kind_of, reads_on, units_after}
 use Rattle.source_machine.specs.declared.machine.SourceMachine.{SourceMachine}
+use Rattle.source_machine.proofs.Reading.{stp_order, stp_mode}
 use Rattle.source_machine.proofs.machine.SourceMachine.aligned_after.Goals as goal
 
 pub returns-in-Stp-clause-reads : goal.returns-in-Stp-clause-reads
 returns-in-Stp-clause-reads c =
-    ap (λ (o : Order). λ (h : Bool). λ (u : List Placed). stream_as Stp (items_at o h u))
-    (c.aligned_after.ensures.order ∙ c.order-order.ensures)
-    ∙ ap reads_on (sym c.in-Stp.is)
+    stp_order _ _ (c.aligned_after.ensures.order ∙ c.order-order.ensures) ∙ ap reads_on (sym c.in-Stp.is)
 
 pub returns-in-Stp-clause-mode : goal.returns-in-Stp-clause-mode
-returns-in-Stp-clause-mode c =
-    ap (λ (h : Bool). λ (u : List Placed). stream_as Stp (items_at c.aligned_after.result.order h u))
-    c.aligned_after.ensures.mode
+returns-in-Stp-clause-mode c = stp_mode _ _ _ c.aligned_after.ensures.mode
 
 pub returns-in-Stp-clause-given : goal.returns-in-Stp-clause-given
 returns-in-Stp-clause-given c =

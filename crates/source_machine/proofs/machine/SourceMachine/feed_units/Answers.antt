@@ -1,11 +1,11 @@
-use Rattle.std.proofs.Common.{ap, subst, sym, ◌∙◌, List, [], ◌∷◌, ◌++◌, append-nil, Bool}
-use Rattle.source_machine.specs.Names.{Placed, byte_at, Stream, Grows, ItmPacket, packets_in, is_hunter, StpItem, Order}
-use Rattle.source_machine.specs.Names.{items_at, order_of, Itm, Stp, stream_as}
-use Rattle.stp_codec.specs.Decoder.{is_hunter as is_stp_hunter}
+use Rattle.std.proofs.Common.{ap, subst, sym, ◌∙◌, List, [], ◌∷◌, ◌++◌}
+use Rattle.source_machine.specs.Names.{Placed, Stream, ItmPacket}
+use Rattle.source_machine.specs.Names.{Itm, stream_as}
 use Rattle.source_machine.specs.declared.machine.SourceMachine.{SourceMachine}
 use Rattle.source_machine.specs.declared.machine.SourceMachine.TheVariants.{Itm as ItmMachine, Stp as StpMachine}
-use Rattle.source_machine.specs.Units.{reading_on, reads_on, StandsOn, TakesUnits, kind_of}
+use Rattle.source_machine.specs.Units.{reading_on, reads_on, StandsOn, TakesUnits}
 use Rattle.source_machine.specs.UnitLaws.{shows_units}
+use Rattle.source_machine.proofs.Reading.{stp_order, stp_own}
 use Rattle.source_machine.proofs.UnitTaking.{itm_takes, stp_takes}
 use Rattle.source_machine.proofs.machine.SourceMachine.feed_units.Goals as goal
 
@@ -16,16 +16,12 @@ returns-in-Itm-clause-mode c =
 
 pub returns-in-Stp-clause-mode : goal.returns-in-Stp-clause-mode
 returns-in-Stp-clause-mode c =
-    ap (λ (o : Order). λ (u : List Placed). stream_as Stp (items_at o (is_stp_hunter c.feed_nibbles.new.self) u))
-    c.feed_nibbles.ensures.same.0
-    ∙ ap (λ (h : Bool). λ (u : List Placed). stream_as Stp (items_at c.in-Stp.decoder.order h u))
-    c.feed_nibbles.ensures.same.1
+    stp_own c.in-Stp.decoder c.feed_nibbles.new.self c.feed_nibbles.ensures.same.0 c.feed_nibbles.ensures.same.1
     ∙ ap reading_on (sym c.in-Stp.is)
 
 pub returns-in-Stp-clause-reads : goal.returns-in-Stp-clause-reads
 returns-in-Stp-clause-reads c =
-    ap (λ (o : Order). λ (h : Bool). λ (u : List Placed). stream_as Stp (items_at o h u)) c.feed_nibbles.ensures.same.0
-    ∙ ap reads_on (sym c.in-Stp.is)
+    stp_order _ _ c.feed_nibbles.ensures.same.0 ∙ ap reads_on (sym c.in-Stp.is)
 
 pub returns-in-Itm-clause-takes : goal.returns-in-Itm-clause-takes
 returns-in-Itm-clause-takes c = λ n s.

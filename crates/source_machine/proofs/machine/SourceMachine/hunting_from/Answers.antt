@@ -1,18 +1,15 @@
-use Rattle.std.proofs.Common.{ap, sym, ◌∙◌, List, Bool}
-use Rattle.source_machine.specs.Names.{Placed, Stream, Order, items_at, ItmPacket, Itm, Stp, stream_as, packets_in}
+use Rattle.std.proofs.Common.{ap, sym, ◌∙◌, List}
+use Rattle.source_machine.specs.Names.{Placed, Stream, ItmPacket, Itm, stream_as, packets_in}
 use Rattle.source_machine.specs.Units.{reads_on}
+use Rattle.source_machine.proofs.Reading.{stp_order, stp_mode}
 use Rattle.source_machine.proofs.machine.SourceMachine.hunting_from.Goals as goal
 
 pub returns-in-Stp-clause-reads : goal.returns-in-Stp-clause-reads
 returns-in-Stp-clause-reads c =
-    ap (λ (o : Order). λ (h : Bool). λ (u : List Placed). stream_as Stp (items_at o h u))
-    (c.hunting_from.ensures.order ∙ c.order.ensures)
-    ∙ ap reads_on (sym c.in-Stp.is)
+    stp_order _ _ (c.hunting_from.ensures.order ∙ c.order.ensures) ∙ ap reads_on (sym c.in-Stp.is)
 
 pub returns-in-Stp-clause-mode : goal.returns-in-Stp-clause-mode
-returns-in-Stp-clause-mode c =
-    ap (λ (h : Bool). λ (u : List Placed). stream_as Stp (items_at c.hunting_from.result.order h u))
-    c.hunting_from.ensures.mode
+returns-in-Stp-clause-mode c = stp_mode _ _ _ c.hunting_from.ensures.mode
 
 pub returns-in-Itm-clause-mode : goal.returns-in-Itm-clause-mode
 returns-in-Itm-clause-mode c =
