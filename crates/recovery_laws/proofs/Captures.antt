@@ -1,7 +1,6 @@
 -- The report of a capture is the strict one up to its first fault.
 use Rattle.std.proofs.Common.{◌≡◌, ℕ, ◌+◌, ◌<◌, ◌≤◌, List, [], ◌∷◌, ◌++◌, map, refl, sym, ◌∙◌, ap, subst, arith}
-use Rattle.std.proofs.Common.{append-nil, drop, length, zero, suc, ◌⊎◌, inl, inr}
-use Rattle.std.proofs.Common.{Option, None, Some, true}
+use Rattle.std.proofs.Common.{append-nil, drop, length, zero, suc, ◌⊎◌, inl, inr, Option, None, Some, true}
 use Rattle.trace_values.specs.declared.cell.Cell.{Cell}
 use Rattle.trace_values.specs.declared.fault.Reason.{Reason}
 use Rattle.trace_values.specs.Placed.{Place, Placed}
@@ -144,9 +143,6 @@ module _ (plan : Plan) (sound : is_sound plan ≡ true) (lo hi : ℕ) (u : List 
 
   same_runs : IsSame plan rs
   same_runs = all_same plan sound rs p.end (from_start rs start p.end p.between)
-
-  in_order : RunsBetween start p.end rs
-  in_order = p.between
 
   front_below : Below start front
   front_below =

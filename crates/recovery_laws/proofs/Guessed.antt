@@ -31,7 +31,7 @@ use Rattle.recovery_report.specs.Placing.{PartLies, part_end}
 use Rattle.recovery_report.proofs.Nearing.{AllBelow, first_below, near, reads}
 use Rattle.recovery_report.proofs.PartLaws as parts
 use Rattle.recovery_report.proofs.Parting.{parts_in_order}
-use Rattle.recovery_report.proofs.Sure.{near_sure}
+use Rattle.stretch_readings.proofs.Guesses.{sure_said}
 
 abbrev Saids : Type 0
 Saids = List (Said (Heard Packet) × Place)
@@ -88,10 +88,10 @@ module _ (plan : Plan) where
     mapped x kind k i =
         let grew = near plan n ms all x kind (Run run) l in
         let sure : said_in false plan kind x next ≡ said_in false plan kind x ms ++ sure_of grew.extra =
-        sym (near_sure (reads plan kind) from_fault (stretches_of plan kind x next)) ∙ ap sure_of grew.is
+        sym (sure_said (reads plan kind) from_fault (stretches_of plan kind x next)) ∙ ap sure_of grew.is
         ∙ filter-append (λ (s : Said (Heard Packet) × Place). is_sure s.0)
         (near_of (reads plan kind) from_fault (stretches_of plan kind x ms)) grew.extra
-        ∙ ap (λ h. h ++ sure_of grew.extra) (near_sure (reads plan kind) from_fault (stretches_of plan kind x ms)) in
+        ∙ ap (λ h. h ++ sure_of grew.extra) (sure_said (reads plan kind) from_fault (stretches_of plan kind x ms)) in
         ap sure_events ((parts.own_with true plan kind x ms run k i).more grew.extra grew.is)
         ∙ told_sure (Some x) (lifted grew.extra) ∙ ap (told (Some x)) (lifted_sure grew.extra)
         ∙ sym ((parts.own plan kind x ms run k i).more (sure_of grew.extra) sure)

@@ -29,8 +29,7 @@ use Rattle.stretch_readings.specs.Words.{Goes}
 use Rattle.stretch_readings.proofs.StretchLaws as laws
 use Rattle.recovering_machines.specs.Port.{items_by, from_halfword}
 use Rattle.recovering_machines.proofs.Feeding.{same}
-use Rattle.recovery_report.specs.Port.{of_stretches}
-use Rattle.recovery_report.specs.Port.{recovered, stretch_of}
+use Rattle.recovery_report.specs.Port.{of_stretches, recovered, stretch_of}
 use Rattle.recovery_report.specs.Report.{Part, Run, Breaks, break_of, lock_of, parts_in, parts_of}
 use Rattle.recovery_report.proofs.Items.{IsStill, if_lock, lock_by, still}
 use Rattle.recovery_report.proofs.Sounds.{port_sound, port_begins, port_settles}

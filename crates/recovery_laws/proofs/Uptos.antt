@@ -77,13 +77,6 @@ told_as source (y ∷ ys) (x ∷ xs) a =
 told_as source [] (x ∷ xs) a = absurd a
 told_as source (y ∷ ys) [] a = absurd a
 
-pub as_append : (ys zs : Said_at (Heard Packet)) (xs ws : Said_at Packet) → AreAs ys xs → AreAs zs ws →
-    AreAs (ys ++ zs) (xs ++ ws)
-as_append [] zs [] ws a b = b
-as_append (y ∷ ys) zs (x ∷ xs) ws a b = (a.0, a.1, as_append ys zs xs ws a.2 b)
-as_append [] zs (x ∷ xs) ws a b = absurd a
-as_append (y ∷ ys) zs [] ws a b = absurd a
-
 -- a run of a source that is not mapped
 triggers_as : (run : List Cell) → AreAs (triggers run) (triggers run)
 triggers_as [] = tt

@@ -1,9 +1,8 @@
 -- What a source says with its guesses grows with each of its bytes, and nothing is taken back. (With half a byte of an
 -- STP source a guess may be taken back: where the other half locks the hunt.)
 use Rattle.std.proofs.Common.{◌≡◌, ℕ, zero, suc, ◌+◌, ◌-◌, ◌<◌, ◌≤◌, List, [], ◌∷◌, ◌++◌, length, drop, map, refl, sym}
-use Rattle.std.proofs.Common.{◌∙◌, ap}
-use Rattle.std.proofs.Common.{subst, arith, inl, inr, ◌⊎◌, append_assoc, append-nil, Option, None, Some, Bool, true}
-use Rattle.std.proofs.Common.{false, cond}
+use Rattle.std.proofs.Common.{◌∙◌, ap, subst, arith, inl, inr, ◌⊎◌, append_assoc, append-nil, Option, None, Some, Bool}
+use Rattle.std.proofs.Common.{true, false, cond}
 use Rattle.std.specs.Prelude.{is_none, filter, flat_map, nat_lt}
 use Rattle.std.proofs.lemmas.Bool.Decides.{nat_tests}
 use Rattle.std.proofs.lemmas.Grind.{flat_map-append}
@@ -23,9 +22,8 @@ use Rattle.stretch_readings.specs.declared.heard.Heard.TheVariants.{Broken}
 use Rattle.stretch_readings.specs.Guessing.{as_guess, at_next, before_first, guess_of, guessed_in, has_fault, near_of}
 use Rattle.stretch_readings.specs.Guessing.{told_near}
 use Rattle.stretch_readings.specs.Stretches.{Fed, One, Mark, Resumption, Stretch, Stretches, before, broken, fed}
-use Rattle.stretch_readings.specs.Stretches.{fed_from}
-use Rattle.stretch_readings.specs.Stretches.{from_fault, heard, heard_of, parted, recovering, renewed, resumed_by, told}
-use Rattle.stretch_readings.specs.Stretches.{with_unit}
+use Rattle.stretch_readings.specs.Stretches.{fed_from, from_fault, heard, heard_of, parted, recovering, renewed}
+use Rattle.stretch_readings.specs.Stretches.{resumed_by, told, with_unit}
 use Rattle.stretch_readings.specs.Words.{IsSound}
 use Rattle.stretch_readings.proofs.Feeding.{last_unit}
 use Rattle.stretch_readings.proofs.StretchLaws.{from_append}

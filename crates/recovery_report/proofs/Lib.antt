@@ -10,4 +10,3 @@ pub mod Items
 pub mod Placing
 pub mod Parting
 pub mod Nearing
-pub mod Sure

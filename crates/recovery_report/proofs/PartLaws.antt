@@ -25,9 +25,8 @@ use Rattle.source_events.proofs.Merges.{test_same}
 use Rattle.stretch_readings.specs.declared.heard.Heard.{Heard}
 use Rattle.recovering_machines.proofs.Runs.{lifted_append}
 use Rattle.recovery_report.specs.Report.{Part, Run, Locks, Breaks, added, report_from, fed_by, run_in, list_of}
-use Rattle.recovery_report.specs.Report.{stretches_of}
-use Rattle.recovery_report.specs.Report.{said_in, added_by_with, added_with, events_by_with, events_of_with}
-use Rattle.recovery_report.specs.Report.{report_from_with}
+use Rattle.recovery_report.specs.Report.{stretches_of, said_in, added_by_with, added_with, events_by_with}
+use Rattle.recovery_report.specs.Report.{events_of_with, report_from_with}
 use Rattle.recovery_report.specs.Words.{OwnRun}
 
 -- the report of parts after others

@@ -1,6 +1,5 @@
 -- What is taken again is without a fault, and a fault ends a reading.
-use Rattle.std.proofs.Common.{◌≡◌, [], ◌∷◌, ◌++◌, refl, sym, ◌∙◌, ap, arith, Option, None}
-use Rattle.std.proofs.Common.{Bool, true, false}
+use Rattle.std.proofs.Common.{◌≡◌, [], ◌∷◌, ◌++◌, refl, sym, ◌∙◌, ap, arith, Option, None, Bool, true, false}
 use Rattle.std.specs.Prelude.{is_none}
 use Rattle.trace_values.specs.Placed.{Placed}
 use Rattle.trace_values.specs.Walk.{by_unit}

@@ -10,13 +10,13 @@ use Rattle.source_counts.specs.Counts.{bytes_of}
 use Rattle.source_counts.specs.declared.counts.Counts.{Counts}
 use Rattle.source_events.specs.declared.event.Event.{Event}
 use Rattle.source_events.specs.declared.event.What.{What}
-use Rattle.source_events.specs.declared.event.What.TheVariants.{Locked, Packet as Said, Raw, Trigger}
+use Rattle.source_events.specs.declared.event.What.TheVariants.{Packet as Said, Raw, Trigger}
 use Rattle.source_events.specs.declared.packet.Packet.{Packet}
 use Rattle.source_events.specs.declared.plan.Plan.{Plan}
 use Rattle.source_events.specs.declared.tails.PortCounts.{PortCounts}
 use Rattle.source_events.specs.Merge.{is_of}
 use Rattle.stretch_readings.specs.declared.heard.Heard.{Heard}
-use Rattle.stretch_readings.specs.declared.heard.Heard.TheVariants.{Read, Broken, Guessed, Misread}
+use Rattle.stretch_readings.specs.declared.heard.Heard.TheVariants.{Read, Broken}
 use Rattle.recovery_report.specs.Port.{PortStretches, recovered, frames_of, fulls_of, halves_of}
 use Rattle.recovery_report.specs.Report.{report}
 
@@ -30,13 +30,10 @@ port_counts_of plan u = let r = recovered plan.frames u in record {
 
 -- an event that is no notice of a lock, no fault and no guess
 abbrev pub is_item : What (Heard Packet) → Bool
-is_item (Locked skipped) = false
 is_item (Said (Read packet)) = true
-is_item (Said (Broken reason)) = false
-is_item (Said (Guessed packet)) = false
-is_item (Said (Misread reason)) = false
 is_item (Raw bytes) = true
 is_item (Trigger byte) = true
+is_item what = false
 
 abbrev pub is_fault : What (Heard Packet) → Bool
 is_fault (Said (Broken reason)) = true

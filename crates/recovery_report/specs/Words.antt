@@ -4,7 +4,7 @@ use Rattle.trace_values.specs.declared.cell.Cell.{Cell}
 use Rattle.trace_values.specs.Placed.{Place}
 use Rattle.trace_values.specs.Stream.{Said}
 use Rattle.deformatter.specs.declared.step.PortStep.{PortStep}
-use Rattle.deformatter.specs.declared.step.PortStep.TheVariants.{Quiet, Half, Full as FullEnds, Frame, Locked}
+use Rattle.deformatter.specs.declared.step.PortStep.TheVariants.{Frame, Locked}
 use Rattle.deformatter.specs.declared.step.PortStep.TheVariants.{Fault as Faulty}
 use Rattle.source_events.specs.declared.packet.Packet.{Packet}
 use Rattle.source_events.specs.declared.plan.Plan.{Plan}
@@ -30,12 +30,10 @@ pub record OwnRun (guesses : Bool) (plan : Plan) (kind : SourceKind) (x : ℕ) (
 
 -- what a step of the port at this offset adds, with these cells where it ends a frame
 abbrev pub parts_by : ℕ → ℕ → PortStep → List Cell → List Part
-parts_by count at Quiet cells = []
-parts_by count at Half cells = []
-parts_by count at FullEnds cells = []
 parts_by count at Frame cells = map Run (runs_of cells)
 parts_by count at (Locked skipped) cells = Locks (count + skipped) (record { at = at; half = 0 }) ∷ []
 parts_by count at (Faulty f) cells = Breaks f.reason (record { at = f.at; half = f.half }) ∷ []
+parts_by count at x cells = []
 
 -- cells each of which is a run of its own, as with no formatter; and cells that are all of one source
 abbrev pub singles : List Cell → List Part

@@ -7,7 +7,7 @@ use Rattle.trace_values.specs.declared.fault.Reason.{Reason}
 use Rattle.trace_values.specs.Placed.{Place, Placed, placed, placed_from}
 use Rattle.trace_values.proofs.Placing.{placed_append}
 use Rattle.trace_values.specs.declared.reading_modes.FramesMode.{FramesMode}
-use Rattle.trace_values.specs.declared.reading_modes.FramesMode.TheVariants.{Hunt, Aligned, Bare}
+use Rattle.trace_values.specs.declared.reading_modes.FramesMode.TheVariants.{Hunt}
 use Rattle.deformatter.specs.Rising.{BytesRise}
 use Rattle.deformatter.specs.PortReading.{port_reading}
 use Rattle.deformatter.proofs.PortReadingLaws.{none_read}
@@ -28,8 +28,7 @@ capture_rises xs =
 -- of no bytes there is no fault, and no event
 nothing_given : {V : Type 0} → (mode : FramesMode) → port_events {V = V} mode [] ≡ []
 nothing_given Hunt = refl
-nothing_given Aligned = refl
-nothing_given Bare = refl
+nothing_given x = refl
 
 module _ {V : Type 0} (ss : List (Mapped V)) (law : AreLawful ss) (mode : FramesMode) where
   pub no_fault_first : stop_in ss (port_reading mode []) ≡ None

@@ -14,7 +14,7 @@ use Rattle.source_events.specs.Runs.{id_of, bytes_of, placed_run, last_at, Rises
 use Rattle.source_events.specs.Merge.{IsAtMost, start_of, AllIn}
 use Rattle.source_events.proofs.Adding.{AddsAlways}
 use Rattle.source_events.specs.Report.{Mapped, AreLawful, what_of, lifted, raw_events, raws, events}
-use Rattle.source_events.proofs.Merges.{test_same, test_other, same_or_not, at_most_trans}
+use Rattle.source_events.proofs.Merges.{test_same, test_other, same_or_not}
 
 -- whether a run is of a source
 pub of_cases : (x : ℕ) (o : Option ℕ) → ((o ≡ Some x) × (is_source x o ≡ true)) ⊎ ((o ≡ Some x → ⊥) × (is_source x o ≡ false))
@@ -48,14 +48,6 @@ all_at_in at h hi p [] ys all l b next = next p (grind (arith, l))
 all_at_in at h hi p (x ∷ xs) ys all l b next =
     let a = all.0 in let k = all.1 in
     (grind (arith, l, a, k), omega arith, all_at_in at x.1.half hi x.1 xs ys all.2 (inr (all.0, (let z : x.1.half ≤ x.1.half = omega arith in z))) b next)
-
-all_in_weaker : {W : Type 0} (p q : Place) (hi : ℕ) (xs : List (W × Place)) → IsAtMost p q → AllIn q hi xs → AllIn p hi xs
-all_in_weaker p q hi [] l all = tt
-all_in_weaker p q hi (x ∷ xs) l all = (at_most_trans p q x.1 l all.0, all.1, all.2)
-
-all_in_append : {W : Type 0} (p : Place) (hi : ℕ) (xs ys : List (W × Place)) → AllIn p hi xs → ((q : Place) → AllIn q hi ys) → AllIn p hi (xs ++ ys)
-all_in_append p hi [] ys all next = next p
-all_in_append p hi (x ∷ xs) ys all next = (all.0, all.1, all_in_append x.1 hi xs ys all.2 next)
 
 last_from : (n : ℕ) (run : List Cell) → IsRunFrom n run → n ≤ last_at run
 last_from n [] r = absurd r

@@ -19,7 +19,6 @@ use Rattle.deformatter.proofs.ReadingLaws.{rises}
 use Rattle.deformatter.specs.ByGrammar.{full_sync}
 use Rattle.deformatter.specs.ReadingGrowth.{hunting}
 use Rattle.deformatter.specs.PortReading.{PortReading, port_reading}
-use Rattle.source_events.specs.declared.event.What.{What}
 use Rattle.source_events.specs.Report.{lock_at, port_events, notice_by}
 use Rattle.source_events.proofs.Locking.{units_append, front_of}
 
@@ -43,14 +42,10 @@ locked u e = elim (hunt_is u) [
 ] where
   one_item : (v : List Placed) → ((full : List Placed) × (rest : List Placed) × (units_of full ≡ full_sync) × (v ≡ full ++ rest)) →
       0 < length (grammar_reading v).items
-  one_item v ([], rest, e, parts) = cc
-  one_item v (a ∷ [], rest, e, parts) = cc
-  one_item v (a ∷ (b ∷ []), rest, e, parts) = cc
-  one_item v (a ∷ (b ∷ (c ∷ [])), rest, e, parts) = cc
   one_item v (a ∷ (b ∷ (c ∷ (d ∷ []))), rest, e, parts) =
       let k = (readings.reading_is Spells why rule start port_decided v).longest ((Full, d.place) ∷ []) rest
       (a ∷ (b ∷ (c ∷ [])), d, rest, e, parts, refl, refl) in omega arith
-  one_item v (a ∷ (b ∷ (c ∷ (d ∷ (f ∷ full)))), rest, e, parts) = cc
+  one_item v (full, rest, e, parts) = cc
 
 abbrev one_more : List Placed → ℕ → ℕ → List Placed
 one_more u at byte = u ++ byte_at at byte ∷ []
@@ -112,14 +107,6 @@ module _ {V : Type 0} where
         ∙ ap (λ (i : List (PortItem × Place)). lock_at {V = V} (port_stream true u).skipped i ++ notice_by at (PortLocked n))
         (sym (unlocked u h.0))
     port_grows Aligned (PortLocked n) h = (let k = h.0 in cc)
-    port_grows Aligned Quiet h = refl
-    port_grows Aligned Half h = refl
-    port_grows Aligned FullEnds h = refl
-    port_grows Aligned Frame h = refl
-    port_grows Aligned (Fault f) h = refl
+    port_grows Aligned step h = refl
     port_grows Bare (PortLocked n) h = (let k = h.0 in cc)
-    port_grows Bare Quiet h = refl
-    port_grows Bare Half h = refl
-    port_grows Bare FullEnds h = refl
-    port_grows Bare Frame h = refl
-    port_grows Bare (Fault f) h = refl
+    port_grows Bare step h = refl

@@ -96,11 +96,6 @@ whole_after c cells ((d ∷ run) ∷ runs) n l w =
       whole_after c cells runs (d.run + 1) (omega arith) w.2,
     )
 
-whole_weaker : (n k : ℕ) (cells : List Cell) (runs : List (List Cell)) → k ≤ n → AreWhole n cells runs → AreWhole k cells runs
-whole_weaker n k cells [] l w = tt
-whole_weaker n k cells ([] ∷ runs) l w = w
-whole_weaker n k cells ((d ∷ run) ∷ runs) l w = ((let a = w.0 in omega arith), w.1, w.2)
-
 -- the first cell of the first run is the first of all
 ordered_above : (c d : Cell) (cells run rest : List Cell) → (d ∷ run) ++ rest ≡ cells → c.run < d.run → Ordered c.run cells →
     Ordered (c.run + 1) cells

@@ -1,14 +1,11 @@
 -- The first run of a frame's cells.
-use Rattle.std.proofs.Common.{◌≡◌, ◌≢◌, ℕ, suc, zero, ◌+◌, ◌<◌, ◌≤◌, List, [], ◌∷◌, length, take, drop, get_or, refl, sym, ◌∙◌, ap, subst, arith, None, Bool, true, false, cond}
+use Rattle.std.proofs.Common.{◌≡◌, ◌≢◌, ℕ, suc, zero, ◌+◌, ◌<◌, ◌≤◌, List, [], ◌∷◌, length, take, drop, get_or, refl, sym, ◌∙◌, ap, subst, arith, Bool, true, false, cond}
 use Rattle.std.specs.Prelude.{◌==◌}
 use Rattle.std.proofs.lemmas.List.{drop_more, drop_all}
 use Rattle.trace_values.specs.declared.cell.Cell.{Cell}
 use Rattle.source_events.specs.Runs.{joined, runs_of, RisesFrom, IsRunFrom, end_of, more_of, run_length}
 use Rattle.source_events.specs.Merge.{InOrder}
-use Rattle.source_events.proofs.Merges.{test_same, test_other}
-
-abbrev no_cell : Cell
-no_cell = record { at = 0; id = None; run = 0; byte = 0 }
+use Rattle.source_events.proofs.Merges.{test_other}
 
 -- no more of the run
 pub none_more : (cells : List Cell) (n : ℕ) (c : Cell) → length cells ≤ n → more_of c (drop n cells) ≡ 0
@@ -16,9 +13,6 @@ none_more cells n c l = ap (more_of c) (drop_all n cells l)
 
 pub other_next : (cells : List Cell) (n : ℕ) (c d : Cell) → n < length cells → (get_or cells n d).run ≢ c.run → more_of c (drop n cells) ≡ 0
 other_next cells n c d l e = ap (more_of c) (drop_more cells n d l) ∙ ap (λ (t : Bool). cond t (suc (more_of (get_or cells n d) (drop (n + 1) cells))) 0) (test_other (get_or cells n d).run c.run e)
-
-pub same_next : (cells : List Cell) (n : ℕ) (c d : Cell) → n < length cells → (get_or cells n d).run ≡ c.run → more_of c (drop n cells) ≡ suc (more_of (get_or cells n d) (drop (n + 1) cells))
-same_next cells n c d l e = ap (more_of c) (drop_more cells n d l) ∙ ap (λ (t : Bool). cond t (suc (more_of (get_or cells n d) (drop (n + 1) cells))) 0) (test_same (get_or cells n d).run c.run e)
 
 -- the runs of a frame are its first run, and the runs of the rest
 pub runs_split : (c : Cell) (cells : List Cell) → runs_of (c ∷ cells) ≡ (c ∷ take (more_of c cells) cells) ∷ runs_of (drop (more_of c cells) cells)

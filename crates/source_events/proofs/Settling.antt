@@ -3,7 +3,6 @@ use Rattle.std.proofs.Common.{◌≡◌, ℕ, ◌+◌, ◌<◌, ◌≤◌, List,
 use Rattle.trace_values.specs.declared.cell.Cell.{Cell}
 use Rattle.trace_values.specs.declared.fault.Reason.{Reason}
 use Rattle.trace_values.specs.Placed.{Place, Placed}
-use Rattle.source_events.specs.declared.event.Event.{Event}
 use Rattle.source_events.specs.Runs.{id_of, IsRunFrom, end_of, list_of}
 use Rattle.source_events.specs.Merge.{InOrder, merged_from, cut}
 use Rattle.source_events.specs.Report.{Mapped, IsLawful, AreLawful, events, lesser, is_less, of_source, least_fault, all_events, reported}
@@ -114,13 +113,6 @@ module _ {V : Type 0} (runs more : List (List Cell)) (n : ℕ) (b : RunsBetween 
   cut_grows ss law (Some f) l =
       ap (λ z. cut (Some f) z) (merged_append id_of (events ss) runs more []) ∙ cut_append f (all_events ss runs) (merged_from id_of (events ss) runs more)
       ∙ ap (λ z. z ++ cut (Some f) (merged_from id_of (events ss) runs more)) (cut_below f (all_events ss runs) (below_weaker n f.0.at _ l (below IsRunFrom end_of end_within id_of (events ss) (adds ss law) runs [] 0 n b)))
-
-  -- so the report of a list without a fault grows, and that of one with a fault stays
-  pub report_grows : (ss : List (Mapped V)) → AreLawful ss → least_fault ss runs ≡ None → (given : List (Event V)) × (reported ss (runs ++ more) ≡ reported ss runs ++ given)
-  report_grows ss law e = (
-    cut (least_fault ss (runs ++ more)) (merged_from id_of (events ss) runs more),
-    cut_grows ss law (least_fault ss (runs ++ more)) (others_later ss runs more n law (all_sound ss e) r) ∙ ap (λ z. z ++ cut (least_fault ss (runs ++ more)) (merged_from id_of (events ss) runs more)) (sym (ap (λ (o : Option Full). cut o (all_events ss runs)) e)),
-  )
 
   pub report_stays : (ss : List (Mapped V)) → AreLawful ss → (f : Full) → least_fault ss runs ≡ Some f → reported ss (runs ++ more) ≡ reported ss runs
   report_stays ss law f e =

@@ -121,9 +121,7 @@ stop_of s = (record { at = s.fault.at; half = s.fault.half }, (s.fault.reason, s
 -- an event that is no notice of a lock
 abbrev pub is_item : {V : Type 0} → What V → Bool
 is_item (Locked skipped) = false
-is_item (Packet v) = true
-is_item (Raw bytes) = true
-is_item (Trigger byte) = true
+is_item x = true
 
 -- what is asked of a source's reading: nothing is read of no bytes, it grows at its last byte, and a fault ends it
 pub record IsLawful {V : Type 0} (stream : List Placed → Stream V) : Type 0 where

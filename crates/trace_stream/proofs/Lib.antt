@@ -1,4 +1,3 @@
-pub mod Certain
 pub mod Inputs
 pub mod Kept
 pub mod Owing

@@ -20,11 +20,6 @@ pub with_last : (held all : List ℕ) (owed : ℕ) → with_debt held (owing (la
 with_last held all owed =
     with_owing held (last_of owed all) owed (λ e. ap (λ (n : ℕ). last_of n all) e ∙ none_left all)
 
--- where nothing is owed no call is left
-pub paid_none : (text : List ℕ) (calls : ℕ) → owing text calls ≡ Paid → calls ≡ 0
-paid_none text zero e = refl
-paid_none text (suc calls) e = absurd (let no = e in cc)
-
 pub owing_none : (text : List ℕ) (calls : ℕ) → calls ≡ 0 → owing text calls ≡ Paid
 owing_none text calls e = ap (owing text) e
 

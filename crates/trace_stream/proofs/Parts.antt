@@ -9,7 +9,7 @@ use Rattle.trace_stream.specs.declared.outcome.Outcome.{Outcome}
 use Rattle.trace_stream.specs.declared.outcome.Outcome.TheVariants.{AtEnd, FaultFound, ReadFailed, WriteFailed, OverLimit}
 use Rattle.trace_stream.specs.BuffersState.{BuffersState}
 use Rattle.trace_stream.specs.Pumped.{HasPumped}
-use Rattle.trace_stream.specs.Served.{Meaning, IsLawful, Ends, IsAllRead, HasServed, text_at_stop}
+use Rattle.trace_stream.specs.Served.{Meaning, IsLawful, Ends, IsAllRead, ServedBy, HasServed, text_at_stop}
 
 -- the output went on after the reading
 abbrev pub written : Ends → Option (List ℕ) → Ends
@@ -108,41 +108,37 @@ module _ (stands there : List ℕ → Type 0) (keeps : (seen : List ℕ) → sta
         holds = keeps pumped.seen pumped.outcome.0.read;
       }
 
-  -- a write that failed, where some prefix of the text was written
-  pub served_in_part : (how : Outcome) (pumped : Pumped how) → stands pumped.seen → (part : List ℕ) →
-      AppendsPrefix old.held held part → GrowsOnly part (m.text (take limit (pumped.seen ++ pumped.extra))) →
-      Served WriteFailed
-  served_in_part how pumped read part prefix grows = record {
+  -- where a write failed
+  write_failed : (how : Outcome) (pumped : Pumped how) → stands pumped.seen → (part : List ℕ)
+      (prefix : AppendsPrefix old.held held part) →
+      ServedBy m limit new.left WriteFailed (pumped.seen ++ pumped.extra) prefix.1.front buffers.recent → Served WriteFailed
+  write_failed how pumped read part prefix outcome = record {
     bytes = pumped.seen ++ pumped.extra;
     out = prefix.1.front;
     lost = pumped.lost;
     gained = prefix.1.took;
     at_most = omega (arith, pumped.at_most, length-append pumped.seen pumped.extra);
-    outcome = inl (longer prefix grows);
+    outcome = outcome;
     ended = λ e. cc;
     fed = pumped.seen;
     feeds = (take (limit - length pumped.seen) pumped.extra, first_bytes limit pumped.seen pumped.extra pumped.within);
     holds = keeps pumped.seen read;
   }
 
-  -- a write that failed once what comes after the text was due, where some prefix of both was written
+  -- some prefix of the text was written
+  pub served_in_part : (how : Outcome) (pumped : Pumped how) → stands pumped.seen → (part : List ℕ) →
+      AppendsPrefix old.held held part → GrowsOnly part (m.text (take limit (pumped.seen ++ pumped.extra))) →
+      Served WriteFailed
+  served_in_part how pumped read part prefix grows = write_failed how pumped read part prefix (inl (longer prefix grows))
+
+  -- what comes after the text was due, and some prefix of both was written
   pub served_to_end : (how : Outcome) (pumped : Pumped how) → stands pumped.seen → (part : List ℕ) →
       AppendsPrefix old.held held part →
       IsAllRead m.faulty limit new.left (pumped.seen ++ pumped.extra) ⊎ (m.due ≡ true) →
       GrowsOnly part (m.text (take limit (pumped.seen ++ pumped.extra)) ++ m.ending (take limit (pumped.seen ++ pumped.extra))) →
       Served WriteFailed
-  served_to_end how pumped read part prefix all grows = record {
-    bytes = pumped.seen ++ pumped.extra;
-    out = prefix.1.front;
-    lost = pumped.lost;
-    gained = prefix.1.took;
-    at_most = omega (arith, pumped.at_most, length-append pumped.seen pumped.extra);
-    outcome = inr (all, longer prefix grows);
-    ended = λ e. cc;
-    fed = pumped.seen;
-    feeds = (take (limit - length pumped.seen) pumped.extra, first_bytes limit pumped.seen pumped.extra pumped.within);
-    holds = keeps pumped.seen read;
-  }
+  served_to_end how pumped read part prefix all grows =
+      write_failed how pumped read part prefix (inr (all, longer prefix grows))
 
 -- the text of the bytes seen is a front of that of all
 pub text_in_part : (text : List ℕ → List ℕ) (limit : ℕ) (seen extra : List ℕ) → ((xs ys : List ℕ) → GrowsOnly (text xs) (text (xs ++ ys))) → length seen ≤ limit

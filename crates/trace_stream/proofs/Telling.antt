@@ -1,6 +1,5 @@
 -- What is noted of more bytes.
 use Rattle.std.proofs.Common.{◌≡◌, ◌≤◌, ℕ, List, [], ◌++◌, Bool, arith, sym, subst}
-use Rattle.std.specs.declared.option.Option.{Option}
 use Rattle.std.specs.Io.KnownBytes.{Appends}
 use Rattle.std.proofs.KnownBytes.{Appends-nil, Appends-trans}
 use Rattle.trace_io.specs.Causes.{Rose}
@@ -14,10 +13,6 @@ rose_later a b c rose later = omega (arith, rose, later)
 
 rose_sooner : (a b c : ℕ) → a ≤ b → Rose b c → Rose a c
 rose_sooner a b c sooner rose = omega (arith, sooner, rose)
-
--- between two moments nothing is noted, and one text after the other
-pub notes_none : (held : Option (List ℕ)) (faults : ℕ) → Notes held held faults faults []
-notes_none held faults = λ sound. Appends-nil held
 
 pub notes_more : (a b c : Noted) (xs ys : List ℕ) → Notes a.held b.held a.faults b.faults xs → a.faults ≤ b.faults →
     Notes b.held c.held b.faults c.faults ys → b.faults ≤ c.faults → Notes a.held c.held a.faults c.faults (xs ++ ys)

@@ -31,7 +31,8 @@ impl Model for Buffers {
 }
 
 impl Buffers {
-    /// Takes all the memory of a run: nothing after it allocates.
+    /// Takes the memory of a run: `serve` allocates nothing. What an action needs beside it, as a trace buffer, it takes
+    /// itself.
     pub fn open(alloc: Global) -> Result<Buffers, AllocError>
         ensures { IfOk result (λ b. (b.pending ≡ []) × (b.recent ≡ [])) }
     {

@@ -1,7 +1,0 @@
-use Rattle.std.proofs.Common.{refl}
-use Rattle.recovery_report.specs.Report.{source_tails}
-use Rattle.recovery_report.proofs.rows.fault_at_the_patterns_last_byte.Goals as goal
-
-pub returns : goal.returns
-unfolding source_tails
-returns c = refl

@@ -1,7 +1,0 @@
-use Rattle.std.proofs.Common.{refl}
-use Rattle.recovery_report.specs.Report.{source_tails}
-use Rattle.recovery_report.proofs.rows.sync_in_frame.Goals as goal
-
-pub returns : goal.returns
-unfolding source_tails
-returns c = refl
