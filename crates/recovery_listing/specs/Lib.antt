@@ -19,9 +19,6 @@ pub mod HeardKindsLaws
 pub mod KindTally
 pub mod KindTallyLaws
 pub mod MeaningLaws
-pub mod Rows
-pub mod DumpRows
-pub mod KindRows
 pub mod PortText
 pub mod PortTextLaws
 pub mod Text

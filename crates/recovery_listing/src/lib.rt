@@ -6,16 +6,13 @@
 mod account;
 mod check;
 mod counting;
-pub mod dump_rows;
 mod going_on;
 mod heard_kinds;
-pub mod kind_rows;
 mod kinds;
 pub mod laws;
 mod lister;
 mod noting;
 mod recovering;
-pub mod rows;
 mod show;
 mod text;
 mod vcd;
