@@ -1,112 +1,97 @@
 //! Each read or each write of a call failing, one at a time.
 
-use crate::answer::{Answer, call};
-use crate::sheet::{Row, Sheet};
-use std::alloc::Global;
-use std::io::{self, Write};
+use crate::answer::{Answer, Calls};
+use crate::out::Out;
+use std::io::Write;
 
 /// Which calls fail.
-#[derive(Clone, Copy, PartialEq, Eq)]
+#[derive(Clone, Copy)]
 pub enum Side {
     Reads,
     Writes,
 }
 
+impl Side {
+    /// These calls with reads or writes of at most this many bytes, the one of this number failing.
+    pub fn failing(self, calls: Calls, piece: usize, number: u64) -> Calls {
+        match self {
+            Side::Reads => Calls {
+                read: piece,
+                failing_read: number,
+                ..calls
+            },
+            Side::Writes => Calls {
+                write: piece,
+                failing_write: number,
+                ..calls
+            },
+        }
+    }
+
+    /// By how much the texts of two calls that fail one after the other differ in one way of failing.
+    pub fn step(self, piece: usize) -> usize {
+        match self {
+            Side::Reads => 0,
+            Side::Writes => piece,
+        }
+    }
+}
+
 /// Calls of consecutive numbers that fail in one way: with texts whose lengths are evenly apart.
-#[derive(Drop)]
-struct Stretch {
+#[derive(Clone, Copy)]
+pub struct Stretch {
     first: u64,
     last: u64,
     least: usize,
     most: usize,
-    status: u8,
-    note: Vec<u8>,
 }
 
 impl Stretch {
     /// This call alone.
-    fn new(number: u64, answer: Answer) -> Stretch {
-        let length = answer.text.len();
+    pub fn new(number: u64, answer: &Answer) -> Stretch {
+        let length = answer.text().len();
         Stretch {
             first: number,
             last: number,
             least: length,
             most: length,
-            status: answer.status,
-            note: answer.note,
         }
     }
 
-    /// Whether this answer goes on in the same way, with a text that is longer by so many bytes.
-    fn joins(&self, answer: &Answer, step: usize) -> bool {
-        self.status == answer.status
-            && self.note.as_slice() == answer.note.as_slice()
-            && self.most.saturating_add(step) == answer.text.len()
+    /// With the next call, whose text is longer by so many bytes.
+    pub fn longer(self, step: usize) -> Stretch {
+        Stretch {
+            last: self.last.saturating_add(1),
+            most: self.most.saturating_add(step),
+            ..self
+        }
     }
 
-    /// Writes the line of these calls.
-    fn tell<W: Write>(&self, out: &mut W) -> io::Result<()> {
-        let (first, last, least, most) = (self.first, self.last, self.least, self.most);
-        if first == last {
-            write!(out, "    {first}: ")?;
-        } else {
-            write!(out, "    {first}..{last}: ")?;
-        }
-        if least == most {
-            write!(out, "{least} bytes")?;
-        } else {
-            write!(out, "{least}..{most} bytes")?;
-        }
-        let status = self.status;
-        write!(out, " = {status} ! ")?;
-        out.write_all(&self.note)
+    /// Whether this answer goes on in the same way as the last one, with a text that is longer by so many bytes.
+    pub fn joins(&self, last: &Answer, next: &Answer, step: usize) -> bool {
+        last.status == next.status
+            && last.note() == next.note()
+            && self.most.saturating_add(step) == next.text().len()
+    }
+
+    /// Writes the line of these calls, of which the last answers this.
+    pub fn tell<W: Write>(&self, last: &Answer, out: &mut Out<W>) {
+        out.put("    ");
+        put_range(self.first, self.last, out);
+        out.put(": ");
+        put_range(self.least as u64, self.most as u64, out);
+        out.put(" bytes = ");
+        out.put_number(u64::from(last.status));
+        out.put(" ! ");
+        out.put_bytes(last.note());
     }
 }
 
-/// Writes what the row answers where each read or each write of at most this many bytes fails.
-pub fn tell_failing<W: Write>(
-    alloc: Global,
-    sheet: &Sheet,
-    row: &Row,
-    (side, piece): (Side, usize),
-    whole: &Answer,
-    out: &mut W,
-) -> io::Result<()> {
-    let most = row.bytes.len().max(whole.text.len()).saturating_add(1);
-    let step = if side == Side::Reads { 0 } else { piece };
-    let mut stretch: Option<Stretch> = None;
-    for number in 0..=most as u64 {
-        let mut calls = sheet.first_calls(row);
-        match side {
-            Side::Reads => {
-                calls.read = piece;
-                calls.failing_read = number;
-            }
-            Side::Writes => {
-                calls.write = piece;
-                calls.failing_write = number;
-            }
-        }
-        let answer = call(alloc, sheet.words(), &row.bytes, calls)?;
-        if !whole.text.starts_with(&answer.text) {
-            write!(out, "    ? {number}: no front of the text\n")?;
-        }
-        let is_last = whole.agrees(&answer, usize::MAX);
-        match &mut stretch {
-            Some(before) if before.joins(&answer, step) && !is_last => {
-                before.last = number;
-                before.most = answer.text.len();
-            }
-            _ => {
-                if let Some(before) = &stretch {
-                    before.tell(out)?;
-                }
-                stretch = Some(Stretch::new(number, answer));
-            }
-        }
-        if is_last {
-            return write!(out, "    {number}: as above\n");
-        }
+/// Writes `J..K`, or the one number that both are.
+fn put_range<W: Write>(first: u64, last: u64, out: &mut Out<W>) {
+    out.put_number(first);
+    if first != last {
+        out.put("..");
+        out.put_number(last);
     }
-    Ok(())
 }

@@ -44,18 +44,22 @@
 mod answer;
 mod failing;
 mod notation;
+mod out;
 mod sheet;
 
-use sheet::Sheet;
-use std::io::{self, Write};
+use out::Out;
+use sheet::{Desk, Sheet};
+use std::io;
 
 fn main(rt: HostRuntime) -> io::Result<()> {
-    let mut out = rt.stdout();
+    let mut out = Out::new(rt.stdout());
     let mut sheet = Sheet::new(rt.alloc())?;
+    let mut desk = Desk::open(rt.alloc())?;
     for line in rt.lines(rt.alloc()) {
         let line = line?;
-        write!(out, "{line}\n")?;
-        sheet.take_line(rt.alloc(), line.as_str(), &mut out)?;
+        out.put(line.as_str());
+        out.put("\n");
+        sheet.take_line(rt.alloc(), line.as_str(), &mut desk, &mut out)?;
     }
-    Ok(())
+    out.end()
 }

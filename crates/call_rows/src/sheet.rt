@@ -1,13 +1,12 @@
 //! The lines of the input: what they set, and the rows that they run.
 
-use crate::answer::{Answer, Calls, call};
-use crate::failing::{Side, tell_failing};
-use crate::notation::{Names, number_or};
+use crate::answer::{Answer, Calls, NOTE_ROOM, ROOM};
+use crate::failing::{Side, Stretch};
+use crate::notation::Names;
+use crate::out::Out;
 use std::alloc::{AllocError, Global};
-use std::io::{self, Write};
-
-/// Room for the longest text of a row that does not say another.
-const ROOM: usize = 65536;
+use std::io::Write;
+use std::mem::swap;
 
 /// What the lines so far have set.
 #[derive(Drop)]
@@ -21,12 +20,11 @@ pub struct Sheet {
 
 /// A row.
 #[derive(Drop)]
-pub struct Row {
+struct Row {
     /// What the call reads.
-    pub bytes: Vec<u8>,
-    failing_read: u64,
-    failing_write: u64,
-    room: usize,
+    bytes: Vec<u8>,
+    /// The first call of it.
+    calls: Calls,
     note_lines: usize,
     tells_left: bool,
 }
@@ -71,18 +69,6 @@ fn words_of(alloc: Global, line: &str) -> Result<Vec<String>, AllocError> {
 }
 
 impl Row {
-    /// A row over no bytes, in which nothing fails.
-    fn new(alloc: Global) -> Row {
-        Row {
-            bytes: Vec::new(alloc),
-            failing_read: u64::MAX,
-            failing_write: u64::MAX,
-            room: ROOM,
-            note_lines: usize::MAX,
-            tells_left: false,
-        }
-    }
-
     /// Takes a word that sets something, and answers whether it is one.
     fn set(&mut self, word: &str) -> bool {
         if word == "left" {
@@ -96,13 +82,37 @@ impl Row {
             return false;
         };
         match name {
-            "read" => self.failing_read = number as u64,
-            "write" => self.failing_write = number as u64,
-            "room" => self.room = number,
+            "read" => self.calls.failing_read = number as u64,
+            "write" => self.calls.failing_write = number as u64,
+            "room" => self.calls.room = number,
             "note" => self.note_lines = number,
             _ => return false,
         }
         true
+    }
+}
+
+/// Answers of calls: of a row's first, and of others of it.
+#[derive(Drop)]
+pub struct Desk {
+    first: Answer,
+    other: Answer,
+    last: Answer,
+}
+
+impl Desk {
+    /// Room for answers.
+    pub fn open(alloc: Global) -> Result<Desk, AllocError> {
+        Ok(Desk {
+            first: Answer::open(alloc)?,
+            other: Answer::open(alloc)?,
+            last: Answer::open(alloc)?,
+        })
+    }
+
+    /// Keeps the answer of the other call as the last one.
+    fn keep_other(&mut self) {
+        swap(&mut self.other, &mut self.last);
     }
 }
 
@@ -114,31 +124,31 @@ impl Sheet {
             words: Vec::new(alloc),
             reads: vec![in alloc; 4096]?,
             writes: vec![in alloc; 4096]?,
-            notes: vec![in alloc; 4096]?,
+            notes: vec![in alloc; NOTE_ROOM]?,
         })
     }
 
-    /// The words of the rows.
-    pub fn words(&self) -> &[String] {
-        self.words.as_slice()
-    }
-
-    /// The calls of a row with the first numbers that are set.
-    pub fn first_calls(&self, row: &Row) -> Calls {
-        Calls {
-            read: self.reads.first().copied().unwrap_or(4096),
-            failing_read: row.failing_read,
-            write: self.writes.first().copied().unwrap_or(4096),
-            failing_write: row.failing_write,
-            room: row.room,
-            note_room: self.notes.first().copied().unwrap_or(4096),
+    /// A row over no bytes, with the first numbers that are set, in which nothing fails.
+    fn plain_row(&self, alloc: Global) -> Row {
+        Row {
+            bytes: Vec::new(alloc),
+            calls: Calls {
+                read: self.reads.first().copied().unwrap_or(4096),
+                failing_read: u64::MAX,
+                write: self.writes.first().copied().unwrap_or(4096),
+                failing_write: u64::MAX,
+                room: ROOM,
+                note_room: self.notes.first().copied().unwrap_or(NOTE_ROOM),
+            },
+            note_lines: usize::MAX,
+            tells_left: false,
         }
     }
 
     /// The row of these words and bytes; none where a word is not understood.
     fn read_row(&self, alloc: Global, line: &str) -> Result<Option<Row>, AllocError> {
         let (front, text) = line.split_once('\'').unwrap_or((line, ""));
-        let mut row = Row::new(alloc);
+        let mut row = self.plain_row(alloc);
         let mut words = String::new(alloc);
         for word in front.split(' ') {
             if !row.set(word) {
@@ -153,17 +163,40 @@ impl Sheet {
         Ok(Some(row))
     }
 
-    /// Runs a row with all numbers that are set, and writes what it answers. Answers that answer.
-    fn run_row<W: Write>(&self, alloc: Global, row: &Row, out: &mut W) -> io::Result<Answer> {
-        let calls = self.first_calls(row);
-        let first = call(alloc, &self.words, &row.bytes, calls)?;
-        first.tell(alloc, row.note_lines, out)?;
-        if row.tells_left {
-            let left = first.left;
-            write!(out, "  left {left}\n")?;
+    /// Makes a call of a row that must answer what the first one does.
+    fn run_other<W: Write>(
+        &self,
+        alloc: Global,
+        row: &Row,
+        calls: Calls,
+        desk: &mut Desk,
+        out: &mut Out<W>,
+    ) {
+        desk.other.call(alloc, &self.words, &row.bytes, calls);
+        let is_same_left = !row.tells_left || desk.first.left == desk.other.left;
+        if !desk.first.agrees(&desk.other, calls.note_room) || !is_same_left {
+            out.put("  ? reads of ");
+            out.put_number(calls.read as u64);
+            out.put(", writes of ");
+            out.put_number(calls.write as u64);
+            out.put(", notes of ");
+            out.put_number(calls.note_room as u64);
+            out.put("\n");
         }
-        let status = first.status;
-        write!(out, "  = {status}\n")?;
+    }
+
+    /// Runs a row with all numbers that are set, and writes what it answers.
+    fn run_row<W: Write>(&self, alloc: Global, row: &Row, desk: &mut Desk, out: &mut Out<W>) {
+        desk.first.call(alloc, &self.words, &row.bytes, row.calls);
+        desk.first.tell(row.note_lines, out);
+        if row.tells_left {
+            out.put("  left ");
+            out.put_number(desk.first.left as u64);
+            out.put("\n");
+        }
+        out.put("  = ");
+        out.put_number(u64::from(desk.first.status));
+        out.put("\n");
         for &read in &self.reads {
             for &write in &self.writes {
                 for &note_room in &self.notes {
@@ -171,20 +204,56 @@ impl Sheet {
                         read,
                         write,
                         note_room,
-                        ..calls
+                        ..row.calls
                     };
-                    let other = call(alloc, &self.words, &row.bytes, calls)?;
-                    let same_left = !row.tells_left || first.left == other.left;
-                    if !first.agrees(&other, note_room) || !same_left {
-                        write!(
-                            out,
-                            "  ? reads of {read}, writes of {write}, notes of {note_room}\n"
-                        )?;
-                    }
+                    self.run_other(alloc, row, calls, desk, out);
                 }
             }
         }
-        Ok(first)
+    }
+
+    /// Writes what a row answers where each of its reads or writes of at most this many bytes fails.
+    fn tell_failing<W: Write>(
+        &self,
+        alloc: Global,
+        row: &Row,
+        (side, piece): (Side, usize),
+        desk: &mut Desk,
+        out: &mut Out<W>,
+    ) {
+        let most = row
+            .bytes
+            .len()
+            .max(desk.first.text().len())
+            .saturating_add(1);
+        let mut stretch: Option<Stretch> = None;
+        for number in 0..=most as u64 {
+            let calls = side.failing(row.calls, piece, number);
+            desk.other.call(alloc, &self.words, &row.bytes, calls);
+            let is_last = desk.first.agrees(&desk.other, usize::MAX);
+            if !desk.first.text().starts_with(desk.other.text()) {
+                out.put("    ? no front of the text\n");
+            }
+            stretch = match stretch {
+                Some(before)
+                    if !is_last && before.joins(&desk.last, &desk.other, side.step(piece)) => {
+                    Some(before.longer(side.step(piece)))
+                }
+                _ => {
+                    if let Some(before) = stretch {
+                        before.tell(&desk.last, out);
+                    }
+                    Some(Stretch::new(number, &desk.other))
+                }
+            };
+            if is_last {
+                out.put("    ");
+                out.put_number(number);
+                out.put(": as above\n");
+                return;
+            }
+            desk.keep_other();
+        }
     }
 
     /// Runs a row with each of its reads or writes failing.
@@ -193,18 +262,19 @@ impl Sheet {
         alloc: Global,
         row: &Row,
         side: Side,
-        out: &mut W,
-    ) -> io::Result<()> {
-        let whole = self.run_row(alloc, row, out)?;
+        desk: &mut Desk,
+        out: &mut Out<W>,
+    ) {
         let (pieces, name) = match side {
-            Side::Reads => (&self.reads, "reads"),
-            Side::Writes => (&self.writes, "writes"),
+            Side::Reads => (&self.reads, "  reads of "),
+            Side::Writes => (&self.writes, "  writes of "),
         };
         for &piece in pieces {
-            write!(out, "  {name} of {piece}\n")?;
-            tell_failing(alloc, self, row, (side, piece), &whole, out)?;
+            out.put(name);
+            out.put_number(piece as u64);
+            out.put("\n");
+            self.tell_failing(alloc, row, (side, piece), desk, out);
         }
-        Ok(())
     }
 
     /// Runs the row of a line.
@@ -213,27 +283,31 @@ impl Sheet {
         alloc: Global,
         line: &str,
         side: Option<Side>,
-        out: &mut W,
-    ) -> io::Result<()> {
-        let Some(row) = self.read_row(alloc, line)? else {
-            return out.write_all(b"  ? no bytes\n");
-        };
-        match side {
-            Some(side) => self.run_failing(alloc, &row, side, out),
-            None => {
-                let _ = self.run_row(alloc, &row, out)?;
-                Ok(())
+        desk: &mut Desk,
+        out: &mut Out<W>,
+    ) -> Result<(), AllocError> {
+        match self.read_row(alloc, line)? {
+            Some(row) => {
+                self.run_row(alloc, &row, desk, out);
+                if let Some(side) = side {
+                    self.run_failing(alloc, &row, side, desk, out);
+                }
             }
+            None => out.put("  ? no bytes\n"),
         }
+        Ok(())
     }
 
-    /// Gives these bytes a name.
-    fn take_name<W: Write>(&mut self, alloc: Global, line: &str, out: &mut W) -> io::Result<()> {
+    /// Gives these bytes a name, and answers whether they are understood.
+    fn take_name(&mut self, alloc: Global, line: &str) -> Result<bool, AllocError> {
         let (front, text) = line.split_once('\'').unwrap_or((line, ""));
         let (name, words) = front.split_once(' ').unwrap_or((front, ""));
         match self.names.read_bytes(alloc, words, text)? {
-            Some(bytes) => Ok(self.names.add(alloc, name, bytes)?),
-            None => out.write_all(b"  ? no bytes\n"),
+            Some(bytes) => {
+                self.names.add(alloc, name, bytes)?;
+                Ok(true)
+            }
+            None => Ok(false),
         }
     }
 
@@ -242,22 +316,26 @@ impl Sheet {
         &mut self,
         alloc: Global,
         line: &str,
-        out: &mut W,
-    ) -> io::Result<()> {
+        desk: &mut Desk,
+        out: &mut Out<W>,
+    ) -> Result<(), AllocError> {
         if line.is_empty() || line.starts_with('#') {
             return Ok(());
         }
         let (verb, rest) = line.split_once(' ').unwrap_or((line, ""));
         match verb {
-            "bytes" => self.take_name(alloc, rest, out)?,
             "words" => self.words = words_of(alloc, rest)?,
             "reads" => self.reads = numbers(alloc, rest)?,
             "writes" => self.writes = numbers(alloc, rest)?,
             "notes" => self.notes = numbers(alloc, rest)?,
-            "run" => self.take_row(alloc, rest, None, out)?,
-            "each-read" => self.take_row(alloc, rest, Some(Side::Reads), out)?,
-            "each-write" => self.take_row(alloc, rest, Some(Side::Writes), out)?,
-            _ => out.write_all(b"  ? no such line\n")?,
+            "run" => self.take_row(alloc, rest, None, desk, out)?,
+            "each-read" => self.take_row(alloc, rest, Some(Side::Reads), desk, out)?,
+            "each-write" => self.take_row(alloc, rest, Some(Side::Writes), desk, out)?,
+            _ => {
+                if verb != "bytes" || !self.take_name(alloc, rest)? {
+                    out.put("  ? no such line\n");
+                }
+            }
         }
         Ok(())
     }

@@ -2,10 +2,10 @@
 
 use crate::notation::{Words, put_cells};
 use arrayvec::ArrayVec;
-use deformatter::{Deformatter, PortStep};
+use deformatter::{PortReader, PortStep};
 use std::alloc::{AllocError, Global};
 use std::io::{self, Write};
-use trace_values::Cell;
+use trace_values::{Cell, FramesMode};
 
 /// More bytes than a row has.
 const MANY: usize = 1 << 20;
@@ -36,7 +36,7 @@ impl Heard {
     }
 
     /// Notes what the port has left over and skipped.
-    fn end(&mut self, port: &Deformatter) {
+    fn end(&mut self, port: &PortReader) {
         if port.is_live() {
             self.left = Some((port.tail(), port.skipped()));
         }
@@ -57,17 +57,9 @@ impl Heard {
     }
 }
 
-fn port_of(hunts: bool) -> Deformatter {
-    if hunts {
-        Deformatter::hunting()
-    } else {
-        Deformatter::aligned()
-    }
-}
-
 /// What the bytes say one by one.
-fn by_bytes(alloc: Global, bytes: &[u8], hunts: bool) -> Result<Heard, AllocError> {
-    let mut port = port_of(hunts);
+fn by_bytes(alloc: Global, bytes: &[u8], mode: FramesMode) -> Result<Heard, AllocError> {
+    let mut port = PortReader::new(mode);
     let mut heard = Heard::new(alloc);
     for (at, byte) in bytes.iter().enumerate() {
         if !port.is_live() {
@@ -86,7 +78,7 @@ fn by_bytes(alloc: Global, bytes: &[u8], hunts: bool) -> Result<Heard, AllocErro
 
 /// Feeds a piece, the first byte of which is at this offset, and notes what it says.
 fn feed_piece(
-    port: &mut Deformatter,
+    port: &mut PortReader,
     from: usize,
     piece: &[u8],
     heard: &mut Heard,
@@ -111,8 +103,13 @@ fn feed_piece(
 }
 
 /// What the bytes say in two pieces.
-fn by_pieces(alloc: Global, bytes: &[u8], cut: usize, hunts: bool) -> Result<Heard, AllocError> {
-    let mut port = port_of(hunts);
+fn by_pieces(
+    alloc: Global,
+    bytes: &[u8],
+    cut: usize,
+    mode: FramesMode,
+) -> Result<Heard, AllocError> {
+    let mut port = PortReader::new(mode);
     let mut heard = Heard::new(alloc);
     if let Some((front, rest)) = bytes.split_at_checked(cut) {
         feed_piece(&mut port, 0, front, &mut heard)?;
@@ -122,19 +119,19 @@ fn by_pieces(alloc: Global, bytes: &[u8], cut: usize, hunts: bool) -> Result<Hea
     Ok(heard)
 }
 
-/// `aligned BYTES`, `hunting BYTES`: what the bytes say one by one. In two pieces, with each cut, they must say the
-/// same.
+/// `aligned BYTES`, `hunting BYTES`, `bare BYTES`: what the bytes say one by one. In two pieces, with each cut, they
+/// must say the same.
 fn hear<W: Write>(
     alloc: Global,
-    hunts: bool,
+    mode: FramesMode,
     words: &mut Words<'_>,
     out: &mut W,
 ) -> io::Result<()> {
     let bytes = words.bytes(alloc)?;
-    let heard = by_bytes(alloc, &bytes, hunts)?;
+    let heard = by_bytes(alloc, &bytes, mode)?;
     heard.tell(out)?;
     for cut in 0..bytes.len() {
-        if by_pieces(alloc, &bytes, cut, hunts)? != heard {
+        if by_pieces(alloc, &bytes, cut, mode)? != heard {
             write!(out, "  ? cut at {cut}\n")?;
         }
     }
@@ -144,8 +141,9 @@ fn hear<W: Write>(
 /// Runs a row.
 pub fn run<W: Write>(alloc: Global, words: &mut Words<'_>, out: &mut W) -> io::Result<()> {
     match words.word() {
-        "aligned" => hear(alloc, false, words, out),
-        "hunting" => hear(alloc, true, words, out),
+        "aligned" => hear(alloc, FramesMode::Aligned, words, out),
+        "bare" => hear(alloc, FramesMode::Bare, words, out),
+        "hunting" => hear(alloc, FramesMode::Hunt, words, out),
         _ => out.write_all(b"  ? no such call\n"),
     }
 }

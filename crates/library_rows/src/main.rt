@@ -14,6 +14,7 @@
 //! the library that differ where they are to agree.
 #![tactic(auto)]
 
+mod decimal_words_rows;
 mod deformatter_rows;
 mod dwt_packets_rows;
 mod frame_grammar_rows;
@@ -29,6 +30,7 @@ mod stp_words;
 mod trace_clock_rows;
 mod trace_text_rows;
 mod trace_values_rows;
+mod trace_vectors_rows;
 
 use notation::Words;
 use std::alloc::Global;
@@ -41,6 +43,7 @@ fn take_line<W: Write>(alloc: Global, line: &str, out: &mut W) -> io::Result<()>
     }
     let mut words = Words::new(line);
     match words.word() {
+        "decimal_words" => decimal_words_rows::run(&mut words, out),
         "deformatter" => deformatter_rows::run(alloc, &mut words, out),
         "dwt_packets" => dwt_packets_rows::run(&mut words, out),
         "frame_grammar" => frame_grammar_rows::run(alloc, &mut words, out),
@@ -54,6 +57,7 @@ fn take_line<W: Write>(alloc: Global, line: &str, out: &mut W) -> io::Result<()>
         "trace_clock" => trace_clock_rows::run(&mut words, out),
         "trace_text" => trace_text_rows::run(alloc, &mut words, out),
         "trace_values" => trace_values_rows::run(alloc, &mut words, out),
+        "trace_vectors" => trace_vectors_rows::run(&mut words, out),
         _ => out.write_all(b"  ? no such library\n"),
     }
 }

@@ -1,10 +1,11 @@
 //! Rows of `trace_values`.
 
+use crate::decimal_words_rows::text_of;
 use crate::notation::{Words, put_cells, put_source};
 use crate::trace_text_rows::reason_of;
 use std::alloc::Global;
 use std::io::{self, Write};
-use trace_values::{Cell, Pattern, SourceId};
+use trace_values::{Cell, FramesMode, PacketsMode, Pattern, SourceId};
 
 /// Whether the last of these units ends the pattern, after the others.
 fn ends(pattern: Pattern, units: &[u8]) -> bool {
@@ -45,12 +46,30 @@ fn reason<W: Write>(words: &mut Words<'_>, out: &mut W) -> io::Result<()> {
     write!(out, "  {number} {name}\n")
 }
 
+/// `frames_mode 'NAME`: the mode of frames that has this name.
+fn frames_mode<W: Write>(words: &mut Words<'_>, out: &mut W) -> io::Result<()> {
+    match FramesMode::named(text_of(words)) {
+        Some(mode) => write!(out, "  {mode:?}\n"),
+        None => out.write_all(b"  none\n"),
+    }
+}
+
+/// `packets_mode 'NAME`: the mode of packets that has this name.
+fn packets_mode<W: Write>(words: &mut Words<'_>, out: &mut W) -> io::Result<()> {
+    match PacketsMode::named(text_of(words)) {
+        Some(mode) => write!(out, "  {mode:?}\n"),
+        None => out.write_all(b"  none\n"),
+    }
+}
+
 /// Runs a row; `default_source` and `default_cell` have no arguments.
 pub fn run<W: Write>(alloc: Global, words: &mut Words<'_>, out: &mut W) -> io::Result<()> {
     match words.word() {
         "ends" => pattern(alloc, words, out),
         "sources" => sources(out),
         "reason" => reason(words, out),
+        "frames_mode" => frames_mode(words, out),
+        "packets_mode" => packets_mode(words, out),
         "default_source" => {
             let number = SourceId::default().number();
             write!(out, "  {number}\n")

@@ -1,7 +1,8 @@
 //! Captures whose front is lost: what is read after it is what the whole has there.
 
-use super::output_of;
+use super::exercise::exercise_capture;
 use super::written::written;
+use super::{Limits, SMALL, output_of};
 use crate::same::same;
 use std::alloc::{AllocError, Global};
 use std::process::Abort;
@@ -73,7 +74,7 @@ const RUNS: [(u8, &[u8]); 24] = [
 
 /// What is lost of a source whose front is lost.
 #[derive(Clone, Copy, PartialEq, Eq)]
-pub(super) enum Kind {
+enum Kind {
     /// All up to the first synchronisation, and nothing after it.
     Itm,
     /// The same; a place and a stamp are known from the first version on.
@@ -86,12 +87,12 @@ pub(super) enum Kind {
 #[derive(Clone, Copy)]
 pub(super) struct Line<'a> {
     pub(super) place: usize,
-    pub(super) id: usize,
+    id: usize,
     pub(super) text: &'a [u8],
 }
 
 /// What is before the first such byte, and what is after it.
-pub(super) fn cut(bytes: &[u8], separator: u8) -> Option<(&[u8], &[u8])> {
+fn cut(bytes: &[u8], separator: u8) -> Option<(&[u8], &[u8])> {
     for i in 0..bytes.len() {
         if bytes[i] == separator {
             return Some((&bytes[..i], &bytes[i + 1..]));
@@ -113,7 +114,7 @@ fn number(digits: &[u8]) -> Option<usize> {
 }
 
 /// The item of this line, which may be an end line or that of a lock.
-pub(super) fn item(line: &[u8]) -> Option<Line<'_>> {
+fn item(line: &[u8]) -> Option<Line<'_>> {
     let (place, rest) = cut(line, b' ')?;
     let (id, text) = cut(rest, b' ')?;
     let id = number(id)?;
@@ -180,7 +181,7 @@ fn asynchronous(bytes: &[u8]) -> usize {
 }
 
 /// The least place where a full synchronisation begins, or the length.
-pub(super) fn full_synchronisation(capture: &[u8], from: usize) -> usize {
+fn full_synchronisation(capture: &[u8], from: usize) -> usize {
     for i in from..capture.len() {
         if capture[i..].starts_with(b"\xff\xff\xff\x7f") {
             return i;
@@ -189,13 +190,17 @@ pub(super) fn full_synchronisation(capture: &[u8], from: usize) -> usize {
     capture.len()
 }
 
-/// The lines of a source in the rest are the last ones of the whole, with their places `lost` bytes earlier.
-pub(super) fn check_lines(
+/// The lines of a source in the rest are the last ones of the whole, with their places `lost` bytes earlier. Answers how
+/// many they are.
+fn check_last(
+    alloc: Global,
     rt: &impl Abort,
-    (all, left): (&[Line<'_>], &[Line<'_>]),
+    (whole, rest): (&[u8], &[u8]),
     lost: usize,
     (source, kind): (usize, Kind),
-) {
+) -> Result<usize, Fail> {
+    let all = items(alloc, whole, source)?;
+    let left = items(alloc, rest, source)?;
     assert!(rt; left.len() <= all.len(), "{source} without {lost} bytes");
     let first = all.len() - left.len();
     let mut known = kind != Kind::Stp;
@@ -208,24 +213,11 @@ pub(super) fn check_lines(
             same(rt, &(&source, &lost), &got.text, &want.text);
         }
     }
-}
-
-/// The same of the lines in these listings. Answers how many they are.
-fn check_last(
-    alloc: Global,
-    rt: &impl Abort,
-    (whole, rest): (&[u8], &[u8]),
-    lost: usize,
-    (source, kind): (usize, Kind),
-) -> Result<usize, Fail> {
-    let all = items(alloc, whole, source)?;
-    let left = items(alloc, rest, source)?;
-    check_lines(rt, (&all, &left), lost, (source, kind));
     Ok(left.len())
 }
 
 /// The items of a mapped source begin with a synchronisation, and each that these bytes of the source have is there.
-pub(super) fn check_synchronised(
+fn check_synchronised(
     rt: &impl Abort,
     left: &[Line<'_>],
     bytes: &[u8],
@@ -263,10 +255,10 @@ fn check_bare(
         "1",
     ];
     let hunting = ["show", "--frames", "bare", option, "1"];
-    let whole = output_of(alloc, rt, &aligned, capture)?;
+    let whole = output_of(alloc, rt, &aligned, capture, SMALL)?;
     for lost in 0..=capture.len() {
         let left = &capture[lost..];
-        let rest = output_of(alloc, rt, &hunting, left)?;
+        let rest = output_of(alloc, rt, &hunting, left, SMALL)?;
         check_last(alloc, rt, (&whole, &rest), lost, (1, kind))?;
         check_synchronised(rt, &items(alloc, &rest, 1)?, left, (1, kind));
     }
@@ -274,13 +266,9 @@ fn check_bare(
 }
 
 #[test]
-fn an_itm_after_each_front_is_as_in_the_whole(rt: HostRuntime) -> Result<(), Fail> {
+fn one_source_after_each_front_is_as_in_the_whole(rt: HostRuntime) -> Result<(), Fail> {
     same(&rt, &"synchronisations(ITM)", &synchronisations(ITM), &4);
-    check_bare(rt.alloc(), &rt, ITM, "--itm", Kind::Itm)
-}
-
-#[test]
-fn a_system_trace_after_each_front_is_as_in_the_whole(rt: HostRuntime) -> Result<(), Fail> {
+    check_bare(rt.alloc(), &rt, ITM, "--itm", Kind::Itm)?;
     same(&rt, &"asynchronous(STP)", &asynchronous(STP), &4);
     check_bare(rt.alloc(), &rt, STP, "--stp", Kind::Stp)
 }
@@ -352,17 +340,6 @@ pub(super) fn tagged(alloc: Global, sources: &Sources) -> Result<Vec<(u8, u8)>, 
     Ok(bytes)
 }
 
-/// The bytes of one source of the table.
-fn bytes_of(alloc: Global, id: u8) -> Result<Vec<u8>, AllocError> {
-    let mut bytes = Vec::new(alloc);
-    for (number, run) in RUNS {
-        if number == id {
-            bytes.extend_from_slice(run)?;
-        }
-    }
-    Ok(bytes)
-}
-
 /// The sources that are not mapped have the lines of the whole after the port's synchronisation.
 fn check_port(
     alloc: Global,
@@ -383,6 +360,12 @@ fn check_port(
     Ok(())
 }
 
+/// Reads of 4,096 bytes, and room for the listing of any of these captures.
+const WHOLE: Limits = Limits {
+    read: 4096,
+    room: 32_768,
+};
+
 /// A mapped source has the last bytes of the whole's, and from its synchronisation on the lines of the whole.
 fn check_mapped(
     alloc: Global,
@@ -393,11 +376,77 @@ fn check_mapped(
 ) -> Result<(), Fail> {
     let source = id as usize;
     assert!(rt; lost <= capture.len());
-    let bytes = output_of(alloc, rt, &["split", "--id", name], &capture[lost..])?;
-    let all = bytes_of(alloc, if kind == Kind::Itm { 1 } else { 2 })?;
+    let split = ["split", "--id", name];
+    let bytes = output_of(alloc, rt, &split, &capture[lost..], WHOLE)?;
+    let all = output_of(alloc, rt, &split, capture, WHOLE)?;
     assert!(rt; all.ends_with(&bytes), "{id} without {lost} bytes");
     check_last(alloc, rt, (whole, rest), lost, (source, kind))?;
     check_synchronised(rt, &items(alloc, rest, source)?, &bytes, (source, kind));
+    Ok(())
+}
+
+/// A capture without this front. The port locks at the first full synchronisation.
+fn check_front(
+    alloc: Global,
+    rt: &impl Abort,
+    sources: &Sources,
+    (capture, lost): (&[u8], usize),
+    whole: &[u8],
+) -> Result<(), Fail> {
+    assert!(rt; lost <= capture.len());
+    let (itm, stp) = sources.mapped;
+    let show = ["show", "--itm", itm, "--stp", stp];
+    let rest = output_of(alloc, rt, &show, &capture[lost..], WHOLE)?;
+    let lock = full_synchronisation(capture, lost);
+    let skipped = lock.wrapping_sub(lost);
+    if lock < capture.len() {
+        let at = skipped.wrapping_add(3);
+        let first = format!(in alloc; "{at} port locked {skipped}\n")?;
+        assert!(rt; rest.starts_with(first.as_bytes()), "without {lost} bytes");
+    }
+    check_port(alloc, rt, (whole, rest.as_slice()), (lost, lock))?;
+    for &(id, name) in sources.itms {
+        check_mapped(
+            alloc,
+            rt,
+            (whole, rest.as_slice()),
+            (capture, lost),
+            (id, name, Kind::Itm),
+        )?;
+    }
+    for &(id, name) in sources.stps {
+        check_mapped(
+            alloc,
+            rt,
+            (whole, rest.as_slice()),
+            (capture, lost),
+            (id, name, Kind::Stp),
+        )?;
+    }
+    Ok(())
+}
+
+/// Each front of a capture, which begins with a full synchronisation.
+fn check_capture(
+    alloc: Global,
+    rt: &impl Abort,
+    sources: &Sources,
+    capture: &[u8],
+) -> Result<(), Fail> {
+    let (itm, stp) = sources.mapped;
+    let aligned = [
+        "show",
+        "--frames=aligned",
+        "--packets=aligned",
+        "--itm",
+        itm,
+        "--stp",
+        stp,
+    ];
+    let whole = output_of(alloc, rt, &aligned, capture, WHOLE)?;
+    for lost in 0..=capture.len() {
+        check_front(alloc, rt, sources, (capture, lost), &whole)?;
+    }
     Ok(())
 }
 
@@ -410,32 +459,7 @@ fn check_frames(
 ) -> Result<(), Fail> {
     let bytes = tagged(alloc, sources)?;
     let written = written(rt, every, halves, &bytes);
-    let capture = written.as_slice();
-    let (itm, stp) = sources.mapped;
-    let aligned = [
-        "show",
-        "--frames=aligned",
-        "--packets=aligned",
-        "--itm",
-        itm,
-        "--stp",
-        stp,
-    ];
-    let whole = output_of(alloc, rt, &aligned, capture)?;
-    for lost in 0..=capture.len() {
-        let left = &capture[lost..];
-        let rest = output_of(alloc, rt, &["show", "--itm", itm, "--stp", stp], left)?;
-        let lock = full_synchronisation(capture, lost);
-        let listings: (&[u8], &[u8]) = (&whole, &rest);
-        check_port(alloc, rt, listings, (lost, lock))?;
-        for &(id, name) in sources.itms {
-            check_mapped(alloc, rt, listings, (capture, lost), (id, name, Kind::Itm))?;
-        }
-        for &(id, name) in sources.stps {
-            check_mapped(alloc, rt, listings, (capture, lost), (id, name, Kind::Stp))?;
-        }
-    }
-    Ok(())
+    check_capture(alloc, rt, sources, written.as_slice())
 }
 
 #[test]
@@ -445,11 +469,43 @@ fn frames_after_each_front_are_as_in_the_whole(rt: HostRuntime) -> Result<(), Fa
 }
 
 #[test]
-fn so_are_those_of_sixteen_sources(rt: HostRuntime) -> Result<(), Fail> {
-    check_frames(rt.alloc(), &rt, &SIXTEEN, (1, 0))
+fn so_are_those_of_sixteen_sources_with_half_synchronisations(rt: HostRuntime) -> Result<(), Fail> {
+    check_frames(rt.alloc(), &rt, &SIXTEEN, (4, 1))
+}
+
+/// The capture with a half synchronisation in each frame: before its first halfword, in the next frame before its
+/// second one, and so on.
+fn with_halves(alloc: Global, capture: &[u8]) -> Result<Vec<u8>, AllocError> {
+    let mut halved = Vec::new(alloc);
+    let mut rest = capture;
+    let mut place = 0usize;
+    for _ in 0..capture.len() {
+        if let Some(after) = rest.strip_prefix(b"\xff\xff\xff\x7f") {
+            halved.extend_from_slice(b"\xff\xff\xff\x7f")?;
+            rest = after;
+        } else if let Some((frame, after)) = rest.split_at_checked(16) {
+            for (index, byte) in frame.iter().enumerate() {
+                if index == place {
+                    halved.extend_from_slice(b"\xff\x7f")?;
+                }
+                halved.push(*byte)?;
+            }
+            rest = after;
+            place = place.wrapping_add(2) % 16;
+        }
+    }
+    Ok(halved)
 }
 
 #[test]
-fn so_are_those_of_sixteen_sources_with_half_synchronisations(rt: HostRuntime) -> Result<(), Fail> {
-    check_frames(rt.alloc(), &rt, &SIXTEEN, (4, 1))
+fn so_is_an_exercise(rt: HostRuntime) -> Result<(), Fail> {
+    let capture = exercise_capture(rt.alloc(), &rt, 500)?;
+    check_capture(rt.alloc(), &rt, &OF_TABLE, &capture)
+}
+
+#[test]
+fn so_is_an_exercise_with_half_synchronisations(rt: HostRuntime) -> Result<(), Fail> {
+    let capture = exercise_capture(rt.alloc(), &rt, 500)?;
+    let halved = with_halves(rt.alloc(), &capture)?;
+    check_capture(rt.alloc(), &rt, &OF_TABLE, &halved)
 }

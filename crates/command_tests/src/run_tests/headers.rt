@@ -1,21 +1,21 @@
 //! Every header with every number of payload bytes that it may have: all of them, and all but the last.
 
-use super::{ALIGNED, ROOM, answer};
+use super::{SMALL, count_lines, output_of, run_over};
 use crate::same::same;
 use capture_run::Status;
-use std::alloc::Global;
+use std::alloc::{AllocError, Global};
 use std::process::Abort;
 use std::test::Fail;
-use trace_io::{MemorySink, MemorySource};
 
-/// What is listed of one to six bytes that finish no packet.
-const TAILS: [&[u8]; 6] = [
-    b"end 1\nport bare skipped 0 tail 0 unattributed 0\n1 itm aligned skipped 0 tail 1\n",
-    b"end 2\nport bare skipped 0 tail 0 unattributed 0\n1 itm aligned skipped 0 tail 2\n",
-    b"end 3\nport bare skipped 0 tail 0 unattributed 0\n1 itm aligned skipped 0 tail 3\n",
-    b"end 4\nport bare skipped 0 tail 0 unattributed 0\n1 itm aligned skipped 0 tail 4\n",
-    b"end 5\nport bare skipped 0 tail 0 unattributed 0\n1 itm aligned skipped 0 tail 5\n",
-    b"end 6\nport bare skipped 0 tail 0 unattributed 0\n1 itm aligned skipped 0 tail 6\n",
+/// The call that lists an ITM without frames from its first byte on.
+const ALIGNED: [&str; 7] = [
+    "show",
+    "--frames",
+    "bare",
+    "--packets",
+    "aligned",
+    "--itm",
+    "1",
 ];
 
 /// How many payload bytes the header may have, and nothing for a reserved one, as the standard's table of
@@ -50,33 +50,42 @@ fn spelling(header: u8, length: usize) -> [u8; 7] {
     bytes
 }
 
-/// All bytes but the last are a tail, and all are a packet.
+/// The lines at the end of so many bytes, the last of which finish no packet.
+fn ending(alloc: Global, count: usize, tail: usize) -> Result<String, AllocError> {
+    format!(in alloc;
+        "end {count}\nport bare skipped 0 tail 0 unattributed 0\n1 itm aligned skipped 0 tail {tail}\n"
+    )
+}
+
+/// All bytes but the last are a tail, and all are one packet, whose line is that of the last byte.
 fn check_spelling(alloc: Global, rt: &impl Abort, bytes: &[u8]) -> Result<(), Fail> {
-    assert!(rt; 0 < bytes.len() && bytes.len() < 8);
-    let short = bytes.len() - 1;
-    if 0 < short {
-        let mut room = [0; ROOM];
-        let mut input = MemorySource::new(&bytes[..short], &[], &[]);
-        let mut output = MemorySink::new(&mut room, &[], &[]);
-        let mut notes = MemorySink::new(&mut [], &[], &[]);
-        let got = answer(alloc, &ALIGNED, &mut input, &mut output, &mut notes)?;
-        same(rt, &bytes, &got, &Status::Done);
-        same(rt, &bytes, &output.held(), &TAILS[short - 1]);
-    }
-    let mut room = [0; ROOM];
-    let mut input = MemorySource::new(bytes, &[], &[]);
-    let mut output = MemorySink::new(&mut room, &[], &[]);
-    let mut notes = MemorySink::new(&mut [], &[], &[]);
-    let got = answer(alloc, &ALIGNED, &mut input, &mut output, &mut notes)?;
-    same(rt, &bytes, &got, &Status::Done);
-    // the line of a packet at the last byte, and no tail
+    let count = bytes.len();
+    let last = count.saturating_sub(1);
+    let short = output_of(alloc, rt, &ALIGNED, &bytes[..last], SMALL)?;
     same(
         rt,
         &bytes,
-        &output.held().first(),
-        &Some(&(b'0' + short as u8)),
+        &short.as_slice(),
+        &ending(alloc, last, last)?.as_bytes(),
     );
-    assert!(rt; output.held().ends_with(b" tail 0\n"), "{bytes:?}");
+    let whole = output_of(alloc, rt, &ALIGNED, bytes, SMALL)?;
+    let begin = format!(in alloc; "{last} 1 ")?;
+    let end = ending(alloc, count, 0)?;
+    assert!(rt; whole.starts_with(begin.as_bytes()), "{bytes:?}");
+    let line = whole
+        .as_slice()
+        .strip_suffix(end.as_bytes())
+        .unwrap_or(b"\n\n");
+    same(rt, &bytes, &count_lines(line), &1);
+    Ok(())
+}
+
+/// A header that no packet has is a fault.
+fn check_reserved(alloc: Global, rt: &impl Abort, header: u8) -> Result<(), Fail> {
+    let (status, text) = run_over(alloc, &ALIGNED, &[header], SMALL)?;
+    same(rt, &header, &status, &Status::CaptureFault);
+    let fault: &[u8] = b"fault 0 1 3 ReservedHeader\n";
+    same(rt, &header, &text.as_slice(), &fault);
     Ok(())
 }
 
@@ -86,12 +95,13 @@ fn each_header_takes_its_payload(rt: HostRuntime) -> Result<(), Fail> {
     for header in 0..=255u8 {
         let lengths = payload_lengths(header);
         if lengths.is_empty() {
+            check_reserved(rt.alloc(), &rt, header)?;
             reserved = reserved.wrapping_add(1);
         }
         for length in lengths {
-            assert!(rt; *length < 7);
             let bytes = spelling(header, *length);
-            check_spelling(rt.alloc(), &rt, &bytes[..*length + 1])?;
+            let count = length.wrapping_add(1).min(7);
+            check_spelling(rt.alloc(), &rt, &bytes[..count])?;
         }
     }
     same(&rt, &"reserved", &reserved, &18);

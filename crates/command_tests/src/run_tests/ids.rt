@@ -1,14 +1,11 @@
 //! Each ID in each byte of a frame that can name one, at once or deferred.
 
-use super::answer;
+use super::split_of;
 use crate::same::same;
 use arrayvec::ArrayVec;
-use capture_run::Status;
-use itoa::Buffer;
 use std::alloc::Global;
 use std::process::Abort;
 use std::test::Fail;
-use trace_io::{MemorySink, MemorySource};
 
 /// Room for the bytes of two frames.
 const ROOM: usize = 32;
@@ -46,15 +43,8 @@ fn check_id(
             assert!(rt; expected.try_push(bytes[i]).is_ok());
         }
     }
-    let mut number = Buffer::new();
-    let words = ["split", "--frames", "aligned", "--id", number.format(id)];
-    let mut room = [0; ROOM];
-    let mut input = MemorySource::new(&bytes, &[], &[]);
-    let mut output = MemorySink::new(&mut room, &[], &[]);
-    let mut notes = MemorySink::new(&mut [], &[], &[]);
-    let got = answer(alloc, &words, &mut input, &mut output, &mut notes)?;
-    same(rt, &(&id, &index), &got, &Status::Done);
-    same(rt, &(&id, &index), &output.held(), &expected.as_slice());
+    let got = split_of(alloc, rt, &bytes, id)?;
+    same(rt, &(&id, &index), &got.as_slice(), &expected.as_slice());
     Ok(())
 }
 

@@ -1,15 +1,11 @@
 //! What the frame writer writes, split again for each ID.
 
-use super::answer;
+use super::split_of;
 use crate::same::same;
 use arrayvec::ArrayVec;
-use capture_run::Status;
 use frame_writer::FrameWriter;
-use itoa::Buffer;
-use std::alloc::Global;
 use std::process::Abort;
 use std::test::Fail;
-use trace_io::{MemorySink, MemorySource};
 use trace_values::{COUNT_ROOM, SourceId};
 
 /// How many bytes of sources each capture has.
@@ -54,41 +50,23 @@ pub(super) fn written(
     capture
 }
 
-/// Of this capture `split` gives the bytes of the ID, in order.
-fn check_id(
-    alloc: Global,
-    rt: &impl Abort,
-    capture: &[u8],
-    bytes: &[(u8, u8)],
-    id: u8,
-) -> Result<(), Fail> {
-    let mut expected = ArrayVec::<u8, COUNT>::new();
-    for &(number, byte) in bytes {
-        if number == id {
-            assert!(rt; expected.try_push(byte).is_ok());
-        }
-    }
-    let mut number = Buffer::new();
-    let words = ["split", "--frames", "aligned", "--id", number.format(id)];
-    let mut room = [0; COUNT];
-    let mut input = MemorySource::new(capture, &[], &[]);
-    let mut output = MemorySink::new(&mut room, &[], &[]);
-    let mut notes = MemorySink::new(&mut [], &[], &[]);
-    let got = answer(alloc, &words, &mut input, &mut output, &mut notes)?;
-    same(rt, &id, &got, &Status::Done);
-    same(rt, &id, &output.held(), &expected.as_slice());
-    Ok(())
-}
-
 #[test]
 fn splits_what_was_written(rt: HostRuntime) -> Result<(), Fail> {
     for seed in 0..2u32 {
         let bytes = any_bytes(seed);
         for (every, halves) in [(0, 0), (1, 8), (2, 1)] {
             for len in [13, 31, COUNT] {
-                let capture = written(&rt, every, halves, &bytes[..len]);
+                let bytes = &bytes[..len];
+                let capture = written(&rt, every, halves, bytes);
                 for id in 1..127 {
-                    check_id(rt.alloc(), &rt, capture.as_slice(), &bytes[..len], id)?;
+                    let mut expected = ArrayVec::<u8, COUNT>::new();
+                    for &(number, byte) in bytes {
+                        if number == id {
+                            assert!(rt; expected.try_push(byte).is_ok());
+                        }
+                    }
+                    let got = split_of(rt.alloc(), &rt, capture.as_slice(), id)?;
+                    same(&rt, &id, &got.as_slice(), &expected.as_slice());
                 }
             }
         }

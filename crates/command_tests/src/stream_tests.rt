@@ -8,8 +8,7 @@ use std::io::{ErrorKind, Read, Write};
 use std::process::Abort;
 use std::test::Fail;
 use trace_io::{
-    Failed, MemorySink, MemorySource, ReadAdapter, Sink, Source, SureSink, SureSource,
-    WriteAdapter, write_whole,
+    Failed, MemorySink, MemorySource, ReadAdapter, Sink, Source, SureSink, SureSource, WriteAdapter,
 };
 
 /// Reads once for each row, and compares the answer and the buffer afterwards.
@@ -23,32 +22,6 @@ fn check_reads<S: Source>(
         same(rt, held, &source.read(&mut buf), want);
         same(rt, held, &buf, held);
     }
-}
-
-#[test]
-fn sources_give_their_bytes_to_the_end(rt: HostRuntime) {
-    let mut source = MemorySource::new(b"abcdef", &[1, 0, 2], &[2]);
-    let rows = [
-        (Ok(1), *b"a\0\0\0"),
-        (Ok(1), *b"b\0\0\0"),
-        (Err(Failed), *b"b\0\0\0"),
-        (Ok(1), *b"c\0\0\0"),
-        (Ok(1), *b"d\0\0\0"),
-        (Ok(2), *b"ef\0\0"),
-        (Ok(0), *b"ef\0\0"),
-        (Ok(0), *b"ef\0\0"),
-    ];
-    check_reads(&rt, &mut source, &rows);
-    let whole = [
-        (Ok(4), *b"abcd"),
-        (Ok(2), *b"efcd"),
-        (Ok(0), *b"efcd"),
-        (Ok(0), *b"efcd"),
-    ];
-    check_reads(&rt, &mut MemorySource::new(b"abcdef", &[], &[]), &whole);
-    check_reads(&rt, &mut SureSource::new(b"abcdef"), &whole);
-    let bytes: &[u8] = b"abcdef";
-    check_reads(&rt, &mut ReadAdapter::new(bytes), &whole);
 }
 
 /// A reader or writer of std that fails at its first calls, and then is the one within.
@@ -102,8 +75,46 @@ const KINDS: [ErrorKind; 3] = [
     ErrorKind::WouldBlock,
 ];
 
+/// Writes to a writer of std with room for four bytes, whose first call fails so.
+fn check_writes(rt: &impl Abort, kind: Option<ErrorKind>) {
+    let mut room = [0; 4];
+    let mut sink = WriteAdapter::new(FailsFirst {
+        calls: 1,
+        kind,
+        inner: room.as_mut_slice(),
+    });
+    // A slice that is full takes no byte, and gives no error.
+    for want in [Err(Failed), Ok(3), Ok(1), Err(Failed)] {
+        same(rt, &"write", &sink.write(b"abc"), &want);
+    }
+    drop(sink);
+    same(rt, &"room", &room, b"abca");
+}
+
 #[test]
-fn a_failed_read_of_std_is_a_fault(rt: HostRuntime) {
+fn sources_give_their_bytes_to_the_end(rt: HostRuntime) {
+    let mut source = MemorySource::new(b"abcdef", &[1, 0, 2], &[2]);
+    let rows = [
+        (Ok(1), *b"a\0\0\0"),
+        (Ok(1), *b"b\0\0\0"),
+        (Err(Failed), *b"b\0\0\0"),
+        (Ok(1), *b"c\0\0\0"),
+        (Ok(1), *b"d\0\0\0"),
+        (Ok(2), *b"ef\0\0"),
+        (Ok(0), *b"ef\0\0"),
+        (Ok(0), *b"ef\0\0"),
+    ];
+    check_reads(&rt, &mut source, &rows);
+    let whole = [
+        (Ok(4), *b"abcd"),
+        (Ok(2), *b"efcd"),
+        (Ok(0), *b"efcd"),
+        (Ok(0), *b"efcd"),
+    ];
+    check_reads(&rt, &mut MemorySource::new(b"abcdef", &[], &[]), &whole);
+    check_reads(&rt, &mut SureSource::new(b"abcdef"), &whole);
+    let bytes: &[u8] = b"abcdef";
+    check_reads(&rt, &mut ReadAdapter::new(bytes), &whole);
     for kind in KINDS {
         let inner: &[u8] = b"abcdef";
         let mut source = ReadAdapter::new(FailsFirst {
@@ -122,32 +133,12 @@ fn a_failed_read_of_std_is_a_fault(rt: HostRuntime) {
     }
 }
 
-/// Writes to a writer of std with room for four bytes, whose first call fails so.
-fn check_writes(rt: &impl Abort, kind: Option<ErrorKind>) {
-    let mut room = [0; 4];
-    let mut sink = WriteAdapter::new(FailsFirst {
-        calls: 1,
-        kind,
-        inner: room.as_mut_slice(),
-    });
-    // A slice that is full takes no byte, and gives no error.
-    for want in [Err(Failed), Ok(3), Ok(1), Err(Failed)] {
-        same(rt, &"write", &sink.write(b"abc"), &want);
-    }
-    drop(sink);
-    same(rt, &"room", &room, b"abca");
-}
-
 #[test]
-fn a_failed_write_of_std_is_a_fault(rt: HostRuntime) {
+fn sinks_take_bytes_until_their_room_is_full(rt: HostRuntime) -> Result<(), Fail> {
     for kind in KINDS {
         check_writes(&rt, Some(kind));
     }
     check_writes(&rt, None);
-}
-
-#[test]
-fn a_sink_takes_its_pieces_until_its_room_is_full(rt: HostRuntime) {
     let mut room = [0; 4];
     let mut sink = MemorySink::new(&mut room, &[2, 0, 5], &[0]);
     let rows: [(Result<usize, Failed>, &[u8]); 4] = [
@@ -160,43 +151,9 @@ fn a_sink_takes_its_pieces_until_its_room_is_full(rt: HostRuntime) {
         same(&rt, &held, &sink.write(b"abcd"), &want);
         same(&rt, &held, &sink.held(), &held);
     }
-}
-
-#[test]
-fn a_prefix_is_written_up_to_the_failing_call(rt: HostRuntime) {
-    // Each call takes one byte, and the call of this number fails.
-    let rows: [(u64, Result<(), Failed>, &[u8]); 4] = [
-        (0, Err(Failed), b""),
-        (1, Err(Failed), b"a"),
-        (2, Err(Failed), b"ab"),
-        (3, Ok(()), b"abc"),
-    ];
-    for (failing, want, held) in rows {
-        let mut room = [0; 8];
-        let fail = [failing];
-        let mut sink = MemorySink::new(&mut room, &[1], &fail);
-        same(&rt, &failing, &write_whole(&mut sink, b"abc"), &want);
-        same(&rt, &failing, &sink.held(), &held);
-    }
-    let mut none = MemorySink::new(&mut [], &[], &[0]);
-    same(
-        &rt,
-        &"no bytes need no call",
-        &write_whole(&mut none, b""),
-        &Ok(()),
-    );
-}
-
-#[test]
-fn a_sure_sink_counts_the_bytes_that_it_takes(rt: HostRuntime) {
-    let mut sink = SureSink::new();
-    same(&rt, &"write", &sink.write(b"abc"), &Ok(3));
-    same(&rt, &"whole", &write_whole(&mut sink, b"defgh"), &Ok(()));
-    same(&rt, &"taken", &sink.taken(), &8);
-}
-
-#[test]
-fn a_failure_prints_its_text(rt: HostRuntime) -> Result<(), Fail> {
+    let mut sure = SureSink::new();
+    same(&rt, &"sure", &sure.write(b"abc"), &Ok(3));
+    same(&rt, &"taken", &sure.taken(), &3);
     let text = format!(in rt.alloc(); "{Failed}")?;
     same(&rt, &"text", &text.as_str(), &"the source or sink failed");
     Ok(())

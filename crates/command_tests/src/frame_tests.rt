@@ -61,19 +61,6 @@ fn check(rt: &impl Abort, frame: &[u8; FRAME_BYTES], before: Option<u8>) {
 }
 
 #[test]
-fn takes_each_id_at_each_place(rt: HostRuntime) {
-    for number in 0..127u8 {
-        for pair in 0..8 {
-            let mut frame = *b" !\"#$%&'()*+,-.U";
-            frame[2 * pair] = 2 * number + 1;
-            check(&rt, &frame, None);
-            frame[15] = 0xaa;
-            check(&rt, &frame, Some(99));
-        }
-    }
-}
-
-#[test]
 fn takes_ids_at_any_places(rt: HostRuntime) {
     for places in 0..=255u8 {
         for aux in [0, 1, 2, 0x0f, 0x55, 0x80, 0xaa, 0xc3, 0xf0, 0xff] {
