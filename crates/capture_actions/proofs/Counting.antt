@@ -35,16 +35,14 @@ lines_more counts n before old new e f =
     ∙ ap (λ (l : List ℕ). before ++ l) (sym (sources_more counts n))
 
 -- the counts of all, put one after the other
-pub all_counts : (ports : PortCounts) (sources : ℕ → Counts) (ends : Tails) (start first second last : List ℕ)
-    (counts : PortCounts) (tails : Tails) → counts ≡ ports →
-    first ≡ start ++ port_counts_text counts.fulls counts.halves counts.frames →
+pub all_counts : (port : PortCounts) (sources : ℕ → Counts) (ends : Tails) (start first second last : List ℕ)
+    (tails : Tails) → first ≡ start ++ port_counts_text port.fulls port.halves port.frames →
     second ≡ first ++ sources_text sources ID_COUNT → tails ≡ ends → last ≡ second ++ tails_text tails →
-    last ≡ start ++ counts_by ports sources ends
-all_counts ports sources ends start first second last counts tails c f s t l =
-    let port : PortCounts → List ℕ = λ k. port_counts_text k.fulls k.halves k.frames in
+    last ≡ start ++ counts_by port sources ends
+all_counts port sources ends start first second last tails f s t l =
+    let head = port_counts_text port.fulls port.halves port.frames in
     let all = sources_text sources ID_COUNT in
     l ∙ ap (λ (k : Tails). second ++ tails_text k) t
-    ∙ ap (λ (x : List ℕ). x ++ tails_text ends) s
-    ∙ ap (λ (x : List ℕ). (x ++ all) ++ tails_text ends) (f ∙ ap (λ (k : PortCounts). start ++ port k) c)
-    ∙ append_assoc (start ++ port ports) all (tails_text ends)
-    ∙ append_assoc start (port ports) (all ++ tails_text ends)
+    ∙ ap (λ (x : List ℕ). x ++ tails_text ends) (s ∙ ap (λ (x : List ℕ). x ++ all) f)
+    ∙ append_assoc (start ++ head) all (tails_text ends)
+    ∙ append_assoc start head (all ++ tails_text ends)

@@ -79,11 +79,8 @@ begins b (Source hardware number size) e = tt
 begins b (LocalShort delta) e =
     let k = under_seven delta (header_is b (LocalShort delta) e (λ r. cc)).1 in omega arith
 begins b (LocalLong lateness) e = (omega arith, omega arith)
-begins b First e = tt
-begins b Second e = tt
-begins b (Extended true dwt low) e = tt
 begins b (Extended false dwt low) e = omega arith
-begins b Reserved e = tt
+begins b x e = tt
 
 source_tells : (hardware : Bool) (number : ℕ) (size : Size) (value : ℕ) → TellsFew (source hardware number size value)
 source_tells true number size value = omega arith

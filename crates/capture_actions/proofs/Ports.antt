@@ -12,7 +12,7 @@ use Rattle.trace_values.proofs.Placing.{placed_from_push, placed_append}
 use Rattle.frame_grammar.specs.Frame.{IsProperFrame}
 use Rattle.frame_grammar.proofs.Wholes.{plain_is_whole}
 use Rattle.std.proofs.lemmas.List.{length-take-le}
-use Rattle.deformatter.specs.declared.step.PortStep.TheVariants.{Half, Full, Frame, Locked}
+use Rattle.deformatter.specs.declared.step.PortStep.TheVariants.{Frame}
 use Rattle.deformatter.specs.ReadingGrowth.{Grows, Answers}
 use Rattle.deformatter.specs.Block.{EachByte, FedAs}
 use Rattle.deformatter.specs.Growth.{goes_on}
@@ -37,12 +37,8 @@ not_faulty mode seen n f = (let k = ap (λ (x : Option (Place × Reason)). is_no
 
 -- the cells that a step gives are those of the frames that it ends
 pub cells_by_step : (step : PortStep) (cells : List Cell) → CellsFit step cells → flat_map (λ (frame : List Cell). frame) (frames_by step cells) ≡ cells
-cells_by_step Quiet cells fit = sym fit
-cells_by_step Half cells fit = sym fit
-cells_by_step Full cells fit = sym fit
 cells_by_step Frame cells fit = append-nil cells
-cells_by_step (Locked skipped) cells fit = sym fit
-cells_by_step (Faulty f) cells fit = sym fit
+cells_by_step step cells fit = sym fit
 
 cells_more : (old new : PortReading) (step : PortStep) (cells : List Cell) → new.frames ≡ old.frames ++ frames_by step cells → CellsFit step cells → cells_of new ≡ cells_of old ++ cells
 cells_more old new step cells frames fit =
@@ -79,11 +75,6 @@ still mode u at (b ∷ bytes) e n =
 -- where the last byte says this, a fault is certain with it or there is none
 fault_after : (mode : FramesMode) (seen front : List ℕ) (last : ℕ) (step : PortStep) → seen ≡ front ++ last ∷ [] → (port_of mode front).fault ≡ None → (port_of mode seen).fault ≡ fault_by step →
     FaultAfter (IsPortFaulty mode) seen (not (goes_on step))
-fault_after mode seen front last Quiet e n f = not_faulty mode seen f
-fault_after mode seen front last Half e n f = not_faulty mode seen f
-fault_after mode seen front last Full e n f = not_faulty mode seen f
-fault_after mode seen front last Frame e n f = not_faulty mode seen f
-fault_after mode seen front last (Locked skipped) e n f = not_faulty mode seen f
 fault_after mode seen front last (Faulty fault) e n f = record {
   front = front;
   last = last;
@@ -91,6 +82,7 @@ fault_after mode seen front last (Faulty fault) e n f = record {
   sound = not_faulty mode front n;
   broken = ap (λ (x : Option (Place × Reason)). is_none x) f;
 }
+fault_after mode seen front last step e n f = not_faulty mode seen f
 
 -- how the reading grew with bytes of a piece
 pub record HasGrown (mode : FramesMode) (seen bytes : List ℕ) (step : PortStep) (cells : List Cell) : Type 0 where

@@ -10,10 +10,7 @@ use Rattle.capture_actions.specs.Names.{Event, Packet, is_of, ID_COUNT}
 use Rattle.capture_actions.specs.Words.{word_of, number_of}
 use Rattle.capture_actions.specs.KindCounts.{is_at, count_at, HasCounted, MOST, number_at}
 use Rattle.capture_actions.specs.declared.item_word.ItemWord.{ItemWord}
-use Rattle.capture_actions.specs.declared.item_word.ItemWord.TheVariants.{Sync, Overflow, Port, Counters, Exception, Pc}
-use Rattle.capture_actions.specs.declared.item_word.ItemWord.TheVariants.{Asleep, Cmp, Hw, Local, Global1, Global2, Ext}
-use Rattle.capture_actions.specs.declared.item_word.ItemWord.TheVariants.{Async, Version, Data, Flag, Trig, Freq}
-use Rattle.capture_actions.specs.declared.item_word.ItemWord.TheVariants.{Nullts, Merr, Gerr, Raw, Trigger}
+use Rattle.capture_actions.specs.declared.item_word.ItemWord.TheVariants.{Sync}
 use Rattle.capture_actions.specs.declared.item_word.TheConstants.{WORD_COUNT}
 use Rattle.capture_actions.specs.declared.kind_counts.KindCounts.{KindCounts}
 
@@ -44,29 +41,7 @@ never false = refl
 -- all words have a place
 pub few_words : (word : ItemWord) → number_of word < WORD_COUNT
 few_words Sync = lit< tt
-few_words Overflow = lit< tt
-few_words Port = lit< tt
-few_words Counters = lit< tt
-few_words Exception = lit< tt
-few_words Pc = lit< tt
-few_words Asleep = lit< tt
-few_words Cmp = lit< tt
-few_words Hw = lit< tt
-few_words Local = lit< tt
-few_words Global1 = lit< tt
-few_words Global2 = lit< tt
-few_words Ext = lit< tt
-few_words Async = lit< tt
-few_words Version = lit< tt
-few_words Data = lit< tt
-few_words Flag = lit< tt
-few_words Trig = lit< tt
-few_words Freq = lit< tt
-few_words Nullts = lit< tt
-few_words Merr = lit< tt
-few_words Gerr = lit< tt
-few_words Raw = lit< tt
-few_words Trigger = lit< tt
+few_words word = lit< tt
 
 -- an event that is not counted there
 module _ (counts : KindCounts) (es : List (Event Packet)) (e : Event Packet) (h : HasCounted counts es) where

@@ -3,7 +3,6 @@ use Rattle.std.proofs.Common.{◌≡◌, ℕ, List, [], ◌∷◌, ◌++◌, fla
 use Rattle.std.proofs.lemmas.Grind.{flat_map-append}
 use Rattle.capture_actions.specs.Names.{ItmPacket, Local, GlobalFirst, GlobalSecond, None as NoRemark, SuitsPacket}
 use Rattle.capture_actions.specs.Names.{local_time, GlobalStamp, is_stamp}
-use Rattle.itm_grammar.specs.declared.packet.ItmPacket.TheVariants.{Sync, Overflow, Software, Hardware, Extension}
 use Rattle.trace_clock.specs.GlobalClock as clock
 use Rattle.capture_actions.specs.declared.clocks.Clocks.{Clocks}
 use Rattle.capture_actions.specs.Remarks.{deltas_in, stamps_in, remark_by}
@@ -31,31 +30,19 @@ after_other clocks packets p d s b = after_push clocks clocks packets p b
 
 -- a packet that is no timestamp has no ticks and no time, and nothing is beside it
 pub no_times : (p : ItmPacket) → is_stamp p ≡ false → (deltas_in p ≡ []) × (stamps_in p ≡ [])
-no_times Sync h = (refl, refl)
-no_times Overflow h = (refl, refl)
-no_times (Software port size v) h = (refl, refl)
-no_times (Hardware disc size v) h = (refl, refl)
 no_times (Local l delta) h = ((cc), (cc))
 no_times (GlobalFirst len v c w) h = ((cc), (cc))
 no_times (GlobalSecond wide v) h = ((cc), (cc))
-no_times (Extension dwt v) h = (refl, refl)
+no_times p h = (refl, refl)
 
 pub no_remark : (packets : List ItmPacket) (p : ItmPacket) → is_stamp p ≡ false → remark_by packets p ≡ NoRemark
-no_remark packets Sync h = refl
-no_remark packets Overflow h = refl
-no_remark packets (Software port size v) h = refl
-no_remark packets (Hardware disc size v) h = refl
 no_remark packets (Local l delta) h = cc
 no_remark packets (GlobalFirst len v c w) h = cc
 no_remark packets (GlobalSecond wide v) h = cc
-no_remark packets (Extension dwt v) h = refl
+no_remark packets x h = refl
 
 pub suits_none : (p : ItmPacket) → is_stamp p ≡ false → SuitsPacket p NoRemark
-suits_none Sync h = tt
-suits_none Overflow h = tt
-suits_none (Software port size v) h = tt
-suits_none (Hardware disc size v) h = tt
 suits_none (Local l delta) h = absurd (cc)
 suits_none (GlobalFirst len v c w) h = absurd (cc)
 suits_none (GlobalSecond wide v) h = absurd (cc)
-suits_none (Extension dwt v) h = tt
+suits_none x h = tt

@@ -2,7 +2,7 @@
 
 ghost use Rattle.source_events.specs.declared.tails.TheConstants.{GREATEST_COUNT};
 ghost use Rattle.std.specs.Prelude.{◌≡◌, ◌+◌, ◌*◌, ◌≤◌, ◌++◌, [], ℕ, List, length, true};
-ghost use Rattle.capture_actions.specs.Names.{Placed, is_sound, source_counts_of};
+ghost use Rattle.capture_actions.specs.Names.{Placed, is_sound, port_counts_of, port_counts_text, source_counts_of};
 ghost use Rattle.source_merge.specs.Engine as engine;
 ghost use Rattle.capture_actions.specs.Summary.{source_text, sources_text};
 
@@ -75,6 +75,22 @@ impl Receiver for Ignored {
     fn give_trigger(&mut self, _to: &mut (), _at: u64, _source: SourceId, _byte: u8) {}
 }
 
+/// Puts the counts of the port.
+pub(crate) fn put_port(outlet: &mut Outlet, reading: &Engine)
+    requires room { length outlet.old + TEXT_ROOM ≤ OUTLET_ROOM }
+    ensures text { (u : List Placed) → engine.Stands reading.now u →
+        let port = port_counts_of (engine.plan_of reading.now) u in
+        outlet.new ≡ outlet.old ++ port_counts_text port.fulls port.halves port.frames }
+    ensures bound { length outlet.new ≤ length outlet.old + TEXT_ROOM }
+{
+    let counts = reading.port_counts();
+    outlet.put(&PortCountsLines {
+        fulls: counts.fulls,
+        halves: counts.halves,
+        frames: counts.frames,
+    });
+}
+
 /// The line of what a source sent, if it sent a byte.
 pub fn put_source_line(outlet: &mut Outlet, id: SourceId, counts: Counts)
     requires room { length outlet.old + TEXT_ROOM ≤ OUTLET_ROOM }
@@ -140,12 +156,7 @@ impl Check {
         ensures { (u : List Placed) → engine.Stands self.now.reading.engine u →
             outlet.new ≡ outlet.old ++ counts_text (plan_of self.now) u }
     {
-        let counts = self.reading.engine.port_counts();
-        outlet.put(&PortCountsLines {
-            fulls: counts.fulls,
-            halves: counts.halves,
-            frames: counts.frames,
-        });
+        put_port(outlet, &self.reading.engine);
         put_sources(outlet, &self.reading.engine);
         print_tails(outlet, &self.reading.engine.finish());
     }

@@ -6,6 +6,7 @@ ghost use Rattle.capture_actions.specs.Names.{ID_COUNT, port_counts_text};
 ghost use Rattle.source_merge.specs.Engine as engine;
 ghost use Rattle.capture_actions.specs.Kinds.{none};
 
+use crate::check::put_port;
 use crate::kind_counts::KindCounts;
 use crate::kind_lines::{KindLines, NONE, Part};
 use crate::plan_table::sends_stp;
@@ -14,7 +15,7 @@ use source_counts::Counts;
 use source_events::{Plan, Tails};
 use source_merge::Engine;
 use trace_stream::{ACTION_ROOM, Action, OUTLET_ROOM, Outlet, Progress, TEXT_ROOM};
-use trace_text::{PortCountsLines, print_fault, print_tails};
+use trace_text::{print_fault, print_tails};
 use trace_values::{ID_COUNT, SourceId};
 
 /// The reading of a capture, and the counts of its kinds. At the end it keeps what is to be put.
@@ -101,21 +102,6 @@ impl KindCheck {
             Some(_) => None,
         }
     }
-
-    /// Puts the counts of the port.
-    fn put_port(&self, outlet: &mut Outlet)
-        requires room { length outlet.old + TEXT_ROOM ≤ OUTLET_ROOM }
-        ensures { (u : List Placed) → engine.Stands self.now.reading.engine u →
-            let port = port_counts_of (plan_of self.now) u in
-            outlet.new ≡ outlet.old ++ port_counts_text port.fulls port.halves port.frames }
-    {
-        let counts = self.reading.engine.port_counts();
-        outlet.put(&PortCountsLines {
-            fulls: counts.fulls,
-            halves: counts.halves,
-            frames: counts.frames,
-        });
-    }
 }
 
 impl Action for KindCheck {
@@ -162,7 +148,7 @@ impl Action for KindCheck {
 
     /// Puts the counts of the port, and owes the rest.
     fn finish(&mut self, outlet: &mut Outlet) {
-        self.put_port(outlet);
+        put_port(outlet, &self.reading.engine);
         self.tails = self.tails_here();
         let counts = all_counts(&self.reading.engine);
         self.lines = KindLines::of(counts);

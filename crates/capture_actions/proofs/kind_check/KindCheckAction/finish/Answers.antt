@@ -15,6 +15,6 @@ returns-clause-ended c = λ seen s.
     c.of-self.ensures p old.kinds (last_by p old.reading.stop c.tails_here-self.result) c.put_port.new.outlet
     ∙ ended p old.kinds es s.kinds u c.all_counts-counts.result c.tails_here-self.result old.reading.stop c.put_port.new.outlet s.reading.stop
     (c.all_counts-counts.ensures u s.reading.engine) (c.tails_here-self.ensures u s.reading.engine)
-    (c.put_port.ensures u s.reading.engine
+    (c.put_port.ensures.text u s.reading.engine
     ∙ ap (λ (l : List ℕ). l ++ port_counts_text port.fulls port.halves port.frames) c.requires.empty)
     ∙ ap (λ (l : List ℕ). kinds_by p (placed l) es (fault_of p u)) (sym s.read)
