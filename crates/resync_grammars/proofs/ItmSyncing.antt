@@ -73,13 +73,7 @@ room_left : (k count : ℕ) (c : Class) → another_follows c count 0 ≡ true �
 room_left k count (Source hardware number size) e h =
     let l : count + 1 < byte_count size = grind (arith, nat_tests) in ((let g = h.0 in omega arith), inr l)
 room_left k count Zero e h = cc
-room_left k count Overflowed e h = cc
-room_left k count (LocalShort delta) e h = cc
-room_left k count (LocalLong lateness) e h = cc
-room_left k count First e h = cc
-room_left k count Second e h = cc
-room_left k count (Extended more dwt low) e h = cc
-room_left k count Reserved e h = cc
+room_left k count x e h = cc
 
 less : (k : ℕ) (s : Partial) → Leads (suc k) s → Says k (rule s 0)
 less k Header h = tt

@@ -7,7 +7,7 @@ use Rattle.resync_grammars.specs.Names.{decorate, carried, decorated, Order, Row
 use Rattle.resync_grammars.specs.Names.{Start, None as NoStamp, StpItem, line_of, version_in, place_of, stamp_of}
 use Rattle.resync_grammars.specs.Names.{item_with, item_of, attribute, Locks, IsRest}
 use Rattle.trace_values.proofs.Decorating.{decorate_append}
-use Rattle.stp_grammar.specs.declared.packet.Row.TheVariants.{Null, Master8, MasterError, Channel8, Datum, Flag, Master16, GlobalError, Channel16, Version, NullStamp, Trigger, Frequency}
+use Rattle.stp_grammar.specs.declared.packet.Row.TheVariants.{Null, Master8, Channel8, Master16, Channel16, Version}
 use Rattle.stp_grammar.specs.declared.item.Place.{Place as Origin}
 use Rattle.stp_grammar.specs.declared.item.Stamp.{Stamp}
 use Rattle.stp_grammar.specs.Shortest.{IsByRow}
@@ -28,32 +28,20 @@ NoVersionIn (Some item) = (let s : Said StpItem = Kept item in is_version s ≡ 
 plain_none : (o : Origin) (row : Row) (v : ℕ) → version_in (Plain row v) ≡ None → NoVersionIn (item_with o NoStamp row v)
 plain_none o Null v e = tt
 plain_none o Master8 v e = tt
-plain_none o MasterError v e = refl
 plain_none o Channel8 v e = tt
-plain_none o (Datum w m t) v e = refl
-plain_none o (Flag t) v e = refl
 plain_none o Master16 v e = tt
-plain_none o GlobalError v e = refl
 plain_none o Channel16 v e = tt
 plain_none o Version v e = cc
-plain_none o NullStamp v e = refl
-plain_none o (Trigger t) v e = refl
-plain_none o (Frequency t) v e = refl
+plain_none o x v e = refl
 
 stamped_none : (o : Origin) (s : Stamp) (row : Row) (v : ℕ) → (line_of row).stamped ≡ true → NoVersionIn (item_with o s row v)
 stamped_none o s Null v e = tt
 stamped_none o s Master8 v e = tt
-stamped_none o s MasterError v e = refl
 stamped_none o s Channel8 v e = tt
-stamped_none o s (Datum w m t) v e = refl
-stamped_none o s (Flag t) v e = refl
 stamped_none o s Master16 v e = tt
-stamped_none o s GlobalError v e = refl
 stamped_none o s Channel16 v e = tt
 stamped_none o s Version v e = (let k : false ≡ true = e in cc)
-stamped_none o s NullStamp v e = refl
-stamped_none o s (Trigger t) v e = refl
-stamped_none o s (Frequency t) v e = refl
+stamped_none o s x v e = refl
 
 item_none : (ps : List StpPacket) (p : StpPacket) → IsByRow p → version_in p ≡ None → NoVersionIn (item_of ps p)
 item_none ps Async r e = refl

@@ -46,10 +46,6 @@ module _ (order : Order) where
 
   less : (k : ℕ) (s : Partial) → Leads (suc k) s → Says k (rule order s 15)
   less k Start h = (let q : 1 ≤ k = omega (arith, h) in q)
-  less k Second h = tt
-  less k Third h = tt
-  less k (Run count) h = tt
-  less k (Size row payload) h = tt
   less k (Payload row count value) h = by (count + 1 == (line_of row).payload) refl where
     by : (b : Bool) → (count + 1 == (line_of row).payload) ≡ b →
         Says k (cond b (after_payload row (number_with order count value 15)) (Go (Payload row (count + 1) (number_with order count value 15))))
@@ -70,6 +66,7 @@ module _ (order : Order) where
           (let q : count + 1 < nibble_count size = grind (arith, l, f) in q),
           (let q : nibble_count size + 2 ≤ count + 1 + k = omega (arith, g) in q),
         )
+  less k s h = tt
 
   -- after all of them it is a run
   is_run : (s : Partial) → Leads 0 s → (count : ℕ) × (s ≡ Run count)

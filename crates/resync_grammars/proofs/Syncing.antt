@@ -52,11 +52,6 @@ pub placed_at : (x : Placed) (n : ℕ) → x.unit ≡ n → x ≡ record { unit 
 placed_at x n e = ap (λ (m : ℕ). let y : Placed = record { unit = m; place = x.place } in y) e
 
 four : (m : List Placed) → units_of m ≡ 255 ∷ (255 ∷ (255 ∷ (127 ∷ []))) → (a : Place) × (b : Place) × (c : Place) × (d : Place) × (m ≡ ff a ∷ (ff b ∷ (ff c ∷ (end d ∷ []))))
-four [] e = cc
-four (a ∷ []) e = cc
-four (a ∷ (b ∷ [])) e = cc
-four (a ∷ (b ∷ (c ∷ []))) e = cc
-four (a ∷ (b ∷ (c ∷ (d ∷ (x ∷ m))))) e = cc
 four (a ∷ (b ∷ (c ∷ (d ∷ [])))) e =
     let ea = placed_at a 255 (let q : a.unit ≡ 255 = cc in q) in
     let eb = placed_at b 255 (let q : b.unit ≡ 255 = cc in q) in
@@ -69,6 +64,7 @@ four (a ∷ (b ∷ (c ∷ (d ∷ [])))) e =
       ap (λ (x : Placed). x ∷ (b ∷ (c ∷ (d ∷ [])))) ea ∙ ap (λ (x : Placed). ff a.place ∷ (x ∷ (c ∷ (d ∷ [])))) eb
           ∙ ap (λ (x : Placed). ff a.place ∷ (ff b.place ∷ (x ∷ (d ∷ [])))) ec ∙ ap (λ (x : Placed). ff a.place ∷ (ff b.place ∷ (ff c.place ∷ (x ∷ [])))) ed,
     )
+four m e = cc
 
 syncs : (s : State) (m : List Placed) → units_of m ≡ pattern_of pattern → on (Go s) m
 syncs s m e =

@@ -19,7 +19,7 @@ use Rattle.resync_laws.proofs.EventTerms.{items}
 use Rattle.resync_laws.specs.FromPoints.{items_among, from_points}
 use Rattle.resync_laws.specs.Moved.{later_reading}
 use Rattle.resync_laws.specs.Resumed.{Resumed, rests, CanAll, IsQuietAt, PartLaw, first_named, points_in, port_of}
-use Rattle.resync_laws.proofs.ReportTerms.{AllRead, AreQuiet}
+use Rattle.resync_laws.proofs.ReportTerms.{AllRead}
 use Rattle.resync_laws.proofs.Listing.{lifted_items, grow, list_rises, list_bytes}
 use Rattle.resync_laws.proofs.Merging.{part_from_points}
 use Rattle.resync_laws.proofs.Reporting.{rest_laws, report_items}
@@ -95,10 +95,6 @@ module _ {V : Type 0} where
         subst (λ (l : List (What V × Place)). AllFrom (p.point (p.rest (p.units (list_of x runs)))) l) (sym (lifted_items (p.rest (p.units (list_of x runs))).given))
         (lifted_all (p.point (p.rest (p.units (list_of x runs)))) (items_of (p.rest (p.units (list_of x runs))).given)
         (quiet.0 i (p.units (list_of x runs)) (can.0.rising (list_of x runs) (list_bytes x runs) (2 * hi, list_rises x runs 0 hi b)) (ap (λ (z : ℕ). (p.rest (p.units (list_of z runs))).fault) i ∙ sound.0)))
-
-  quiet_at : {K : Type 0} (ps : List (Resumed K V)) → AreQuiet ps → (x : ℕ) → IsQuietAt ps x
-  quiet_at [] q x = tt
-  quiet_at (p ∷ ps) q x = ((λ e. q.0), quiet_at ps q.1 x)
 
   -- of a reading without a fault
   sound_in : {K : Type 0} (ps : List (Resumed K V)) (r : PortReading) (hi : ℕ) → RunsBetween 0 hi (runs_in r) → stop_in (rests ps) r ≡ None → AreSound (rests ps) (runs_in r)

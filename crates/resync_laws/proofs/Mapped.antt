@@ -13,7 +13,7 @@ use Rattle.itm_grammar.specs.Spelling as itm
 use Rattle.itm_grammar.specs.Rule as itm_rule
 use Rattle.itm_codec.specs.Reading as itm_reading
 use Rattle.stp_grammar.specs.declared.packet.Row.{Row}
-use Rattle.stp_grammar.specs.declared.packet.Row.TheVariants.{Null, Master8, MasterError, Channel8, Datum, Flag, Master16, GlobalError, Channel16, Version, NullStamp, Trigger, Frequency}
+use Rattle.stp_grammar.specs.declared.packet.Row.TheVariants.{Null, Master8, Channel8, Master16, Channel16, Version}
 use Rattle.stp_grammar.specs.declared.packet.StpPacket.{StpPacket}
 use Rattle.stp_grammar.specs.declared.packet.StpPacket.TheVariants.{Async, Plain, Stamped}
 use Rattle.stp_grammar.specs.declared.partial.Partial.TheVariants.{Start}
@@ -75,32 +75,19 @@ Marked t o = IsMarked is_version_item t o
 row_marked : (o : Origin) (row : Row) (v : ℕ) → Marked (begins_master (Plain row v)) (item_with o NoStamp row v)
 row_marked o Null v = tt
 row_marked o Master8 v = tt
-row_marked o MasterError v = refl
 row_marked o Channel8 v = tt
-row_marked o (Datum w m t) v = refl
-row_marked o (Flag t) v = refl
 row_marked o Master16 v = tt
-row_marked o GlobalError v = refl
 row_marked o Channel16 v = tt
-row_marked o Version v = refl
-row_marked o NullStamp v = refl
-row_marked o (Trigger t) v = refl
-row_marked o (Frequency t) v = refl
+row_marked o x v = refl
 
 stamped_marked : (o : Origin) (s : Stamp) (row : Row) (v : ℕ) → (line_of row).stamped ≡ true → Marked false (item_with o s row v)
 stamped_marked o s Null v e = tt
 stamped_marked o s Master8 v e = tt
-stamped_marked o s MasterError v e = refl
 stamped_marked o s Channel8 v e = tt
-stamped_marked o s (Datum w m t) v e = refl
-stamped_marked o s (Flag t) v e = refl
 stamped_marked o s Master16 v e = tt
-stamped_marked o s GlobalError v e = refl
 stamped_marked o s Channel16 v e = tt
 stamped_marked o s Version v e = (let k : false ≡ true = e in cc)
-stamped_marked o s NullStamp v e = refl
-stamped_marked o s (Trigger t) v e = refl
-stamped_marked o s (Frequency t) v e = refl
+stamped_marked o s x v e = refl
 
 marked : (ps : List StpPacket) (p : StpPacket) → IsByRow p → Marked (begins_master p) (attribute ps p).0
 marked ps Async r = refl

@@ -9,7 +9,7 @@ use Rattle.resync_laws.specs.Names.{later_place, later_fault, later}
 use Rattle.trace_values.specs.declared.next.Next.TheVariants.{Go, End, Fail}
 use Rattle.resync_rules.proofs.Moving.{moved, move, move_found, progress_moved, hunt_moved}
 use Rattle.trace_values.specs.Hunted.{Found, Hunt, hunt}
-use Rattle.frame_grammar.specs.Port.{PortItem, Full, Half, Frame, Part, Between, First, One, Two, Three, State, start, word_ended, part_rule, rule}
+use Rattle.frame_grammar.specs.Port.{PortItem, Full, Half, Part, Between, First, One, Two, Three, State, start, word_ended, part_rule, rule}
 use Rattle.port_sync.specs.Hunting.{pattern}
 use Rattle.deformatter.specs.Reading.{PortStream, items_of, read_after, port_hunted, port_stream}
 use Rattle.resync_laws.proofs.MovedTerms.{later_item, later_port}
@@ -64,8 +64,7 @@ module _ (c : ℕ) where
       ∙ ap (λ (n : ℕ). 0 + halves_in x.0 + n) (halves_later l) ∙ sym (sum_by-append halves_in (x.0 ∷ []) (items_of l)) where
         one : (p : PortItem) → halves_in (later_item c p) ≡ halves_in p
         one Full = refl
-        one Half = refl
-        one (Frame f halves) = refl
+        one x = refl
 
   abbrev ported : List (PortItem × Place) → ℕ → Option (Place × Reason) → ℕ → ℕ → PortStream
   ported port_items halves fault tail skipped = record { items = port_items; halves = halves; fault = fault; tail = tail; skipped = skipped; locked = true }

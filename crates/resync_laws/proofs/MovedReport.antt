@@ -115,8 +115,7 @@ module _ (c : ℕ) where
       ∙ ap (λ (n : ℕ). 0 + fulls_in x + n) (fulls_later l) ∙ sym (sum_by-append fulls_in (x ∷ []) l) where
         one : (p : PortItem) → fulls_in (later_item c p) ≡ fulls_in p
         one Full = refl
-        one Half = refl
-        one (Frame f halves) = refl
+        one x = refl
 
   framed_later : (s : PortStream) → AllSized (items_of s.items) → framed (later_port c s) ≡ later_reading c (framed s)
   framed_later s k =

@@ -12,12 +12,10 @@ use Rattle.resync_laws.specs.Names.{is_item, runs_in, stop_in, report, IsPortRes
 use Rattle.deformatter.specs.Reading.{PortStream, items_of, port_stream}
 use Rattle.deformatter.proofs.PortReadingLaws.{frames_of_items-append}
 use Rattle.deformatter.proofs.RisingLaws.{reading_rises}
-use Rattle.source_events.proofs.Placing.{RunsBetween}
-use Rattle.source_events.proofs.Least.{AreSound}
-use Rattle.source_events.proofs.Least.{Full as Stop, least_none, list_append}
+use Rattle.source_events.proofs.Placing.{RunsBetween, frames_between}
+use Rattle.source_events.proofs.Least.{AreSound, Full as Stop, least_none, list_append}
 use Rattle.source_events.proofs.Settling.{all_sound}
 use Rattle.source_events.proofs.Growth.{no_stop}
-use Rattle.source_events.proofs.Placing.{frames_between}
 use Rattle.resync_laws.proofs.RunTerms.{unnamed_run, RunsRest}
 use Rattle.resync_laws.specs.FromPoints.{items_among, from_points}
 use Rattle.resync_laws.specs.Resumed.{Resumed, wholes, rests, CanAll, points_in}

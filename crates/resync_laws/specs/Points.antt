@@ -1,6 +1,5 @@
 -- From where on the rest of a capture tells what the whole tells: the point of each source.
-use Rattle.std.specs.Prelude.{ℕ, List, [], ◌∷◌, true}
-use Rattle.std.specs.Prelude.{Option, None, Some}
+use Rattle.std.specs.Prelude.{ℕ, List, [], ◌∷◌, true, Option, None, Some}
 use Rattle.resync_laws.specs.Names.{Cell, Place, Said, Notice, Kept, source_units, PortReading, cells_of, packets_in}
 use Rattle.resync_laws.specs.Names.{StpItem, Version, items_in, Plan, SourceKind, Itm, Stp, kind_of, point_in}
 use Rattle.resync_laws.specs.FromPoints.{first_in}

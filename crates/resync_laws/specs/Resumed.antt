@@ -4,9 +4,8 @@ use Rattle.std.specs.Prelude.{Option, None, Some, is_none}
 use Rattle.resync_laws.specs.Names.{Cell, Place, Placed, placed, Stream, FramesMode, PortReading, port_reading}
 use Rattle.resync_laws.specs.Names.{cells_of, part, list_of, Mapped, IsLawful, runs_in, stop_in, report, rest_mode}
 use Rattle.resync_laws.specs.Names.{IsRising, FollowsFrom, AllFrom, items_of, later, later_stream}
-use Rattle.resync_laws.specs.FromPoints.{first_in}
+use Rattle.resync_laws.specs.FromPoints.{first_in, items_among, from_points}
 use Rattle.resync_laws.specs.Moved.{later_reading, later_event}
-use Rattle.resync_laws.specs.FromPoints.{items_among, from_points}
 
 -- A mapped source whose front may be lost: which units its bytes are, how these read in the whole and in the rest,
 -- where the point is in what the rest reads as, and of which kind the source is.

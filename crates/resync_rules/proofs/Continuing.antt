@@ -80,12 +80,10 @@ module _ {S V : Type 0} (rule : S → Placed → Next S V) (start : S) where
   next_of (Fail e) l = Fail e
 
   said_push : (w : List Placed) (n : Next S V) (l : Placed) → said_last rule start n (w ++ l ∷ []) ≡ next_of (said_last rule start n w) l
-  said_push [] (Go s) l = refl
-  said_push [] (End v) l = refl
-  said_push [] (Fail e) l = refl
   said_push (b ∷ w) (Go s) l = said_push w (rule s b) l
   said_push (b ∷ w) (End v) l = said_push w (rule start b) l
-  said_push (b ∷ w) (Fail e) l = refl
+  said_push [] (Go s) l = refl
+  said_push w n l = refl
 
   ends_by : (q : Progress S V) (l : Placed) (v : V) (n : Next S V) → EndsOrFails v n → (with_unit start q l n None).fault ≡ None →
       with_unit start q l n None ≡ ended (q.items ++ (v, l.place) ∷ [])

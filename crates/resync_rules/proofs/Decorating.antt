@@ -5,8 +5,7 @@ use Rattle.std.proofs.lemmas.List.Elements.{filter-append}
 use Rattle.std.proofs.lemmas.Bool.{le-leb, leb-true, lt-leb}
 use Rattle.resync_rules.specs.Names.{Place, Placed, Stream, Said, Notice, Kept, kept_if, decorate, carried, decorated}
 use Rattle.resync_rules.specs.Points.{Between, IsRising, is_kept, items_of, point_of, from_point, Follows, FollowsFrom}
-use Rattle.resync_rules.specs.Points.{key, is_from}
-use Rattle.resync_rules.specs.Points.{AllFrom}
+use Rattle.resync_rules.specs.Points.{key, is_from, AllFrom}
 use Rattle.resync_rules.proofs.Following.{at_item, between_append, between_down}
 use Rattle.trace_values.proofs.Decorating.{decorate_append}
 use Rattle.resync_rules.proofs.ItemTerms.{first_item, IsMarked, AllFit, BeginsAnew}

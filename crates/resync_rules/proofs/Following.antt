@@ -12,8 +12,7 @@ use Rattle.trace_values.proofs.Lists.{fronts_meet}
 use Rattle.trace_values.proofs.Modes as modes
 use Rattle.resync_rules.specs.Fronts.{Hunting, IsSync, Locks}
 use Rattle.resync_rules.specs.Syncing.{Syncs}
-use Rattle.resync_rules.specs.Points.{Between, IsRising, is_kept, items_of, point_of, from_point, Follows}
-use Rattle.resync_rules.specs.Points.{key, is_from}
+use Rattle.resync_rules.specs.Points.{Between, IsRising, is_kept, items_of, point_of, from_point, Follows, key, is_from}
 use Rattle.resync_rules.proofs.Locking as locking
 use Rattle.resync_rules.proofs.Resting as resting
 

@@ -6,8 +6,7 @@ use Rattle.resync_rules.specs.Names.{Reason, Next, Go, End, Fail, Place, Placed,
 use Rattle.resync_rules.specs.Names.{progress_from, progress, Pattern, Found, Hunt, run_after, begun, hunt_on}
 use Rattle.resync_rules.specs.Names.{hunt_from, no_hunt, hunt, hunted_by, stream_in, Stream, Said, Notice, Kept, kept}
 use Rattle.resync_rules.specs.Names.{shown}
-use Rattle.resync_rules.specs.Moved.{later_place, later_fault}
-use Rattle.resync_rules.specs.Moved.{later, later_stream}
+use Rattle.resync_rules.specs.Moved.{later_place, later_fault, later, later_stream}
 
 module _ (c : ℕ) {S V : Type 0} (hs : S → S) (hv : V → V) where
   abbrev pub moved : Next S V → Next S V
@@ -83,8 +82,7 @@ module _ (c : ℕ) {S V : Type 0} (hs : S → S) (hv : V → V) where
 module _ (c : ℕ) {S V : Type 0} (rule : S → ℕ → Next S V) (start : S) (p : Pattern) (v : V) where
   same_next : (n : Next S V) → n ≡ moved c (λ (s : S). s) (λ (v : V). v) n
   same_next (Go s) = refl
-  same_next (End v) = refl
-  same_next (Fail e) = refl
+  same_next x = refl
 
   natural_unit : (s : S) (b : Placed) → by_unit rule s (later c b) ≡ moved c (λ (s : S). s) (λ (v : V). v) (by_unit rule s b)
   natural_unit s b = same_next (rule s b.unit)

@@ -25,9 +25,6 @@ module _ {S V : Type 0} (Spells : V → List Placed → Type 0) (why : List Plac
         (let x : Found S V = record { skipped = n; place = a; reading = q } in x ≡ record { skipped = m; place = b; reading = r })
     inside n m a b q r e = cc
 
-  made : List (V × Place) → List Placed → Option (Place × Reason) → Reading V
-  made items rest fault = record { items = items; rest = rest; fault = fault }
-
   -- a v that ends there has the pattern there
   none_ends : (lost rest : List Placed) (items : List (V × Place)) → IsNowhere (pattern_of p) (units_of rest) → (front more : List Placed) → rest ≡ front ++ more → length (pattern_of p) ≤ length front → EndsAt Spells v items (lost ++ front) → ⊥
   none_ends lost rest items none front more e long a =

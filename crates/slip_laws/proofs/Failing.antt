@@ -93,10 +93,6 @@ placed_at x n e = ap (λ (m : ℕ). let y : Placed = record { unit = m; place = 
 
 four : (m : List Placed) (b : ℕ) (post : List ℕ) → units_of m ≡ 255 ∷ (255 ∷ (255 ∷ (b ∷ post))) →
     (p : Place) × (q : Place) × (s : Place) × (x : Placed) × (w : List Placed) × (m ≡ ff p ∷ (ff q ∷ (ff s ∷ (x ∷ w)))) × (x.unit ≡ b)
-four [] b post e = cc
-four (p ∷ []) b post e = cc
-four (p ∷ (q ∷ [])) b post e = cc
-four (p ∷ (q ∷ (s ∷ []))) b post e = cc
 four (p ∷ (q ∷ (s ∷ (x ∷ w)))) b post e =
     let ep = placed_at p 255 (let k : p.unit ≡ 255 = cc in k) in
     let eq = placed_at q 255 (let k : q.unit ≡ 255 = cc in k) in
@@ -109,6 +105,7 @@ four (p ∷ (q ∷ (s ∷ (x ∷ w)))) b post e =
       ap (λ (y : Placed). y ∷ (q ∷ (s ∷ (x ∷ w)))) ep ∙ ap (λ (y : Placed). ff p.place ∷ (y ∷ (s ∷ (x ∷ w)))) eq ∙ ap (λ (y : Placed). ff p.place ∷ (ff q.place ∷ (y ∷ (x ∷ w)))) es,
       cc,
     )
+four m b post e = cc
 
 pub units_bytes : (u : List Placed) → AllByRecursion (λ (b : Placed). b.unit < 256) u → AreBytes (units_of u)
 units_bytes [] a = tt
