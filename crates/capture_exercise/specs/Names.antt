@@ -1,7 +1,6 @@
 -- Names of lower crates, for the files of this one.
 pub use Rattle.capture_actions.specs.Summary.{summary}
-unfoldable pub use Rattle.capture_actions.specs.Summary.{sources_text}
-unfoldable pub use Rattle.frame_writer.specs.Written.{filled, frame_bytes, frames_by}
+unfoldable pub use Rattle.frame_writer.specs.Written.{frames_by}
 pub use Rattle.port_formatter.specs.Port.{Port, written}
 pub use Rattle.port_formatter.specs.declared.straight.TheConstants.{KEPT_ROOM}
 pub use Rattle.script_rebuild.specs.Script.{by_item, given_items, items_by}
@@ -14,14 +13,10 @@ pub use Rattle.script_text.specs.declared.lines.Line.TheVariants.{Of}
 pub use Rattle.script_text.specs.declared.version_two.Line2.{Line2}
 pub use Rattle.script_text.specs.declared.version_two.Line2.TheVariants.{One}
 pub use Rattle.source_events.specs.Plan.{is_sound}
-unfoldable pub use Rattle.stp_encoder.specs.Bytes.{nibbles_for}
-unfoldable pub use Rattle.stp_encoder.specs.Packets.{packets_for, shortest_stamp}
-unfoldable pub use Rattle.stp_grammar.specs.Attribution.{channel_of, last_word_of, master_of, version_of}
 pub use Rattle.stp_grammar.specs.declared.item.Stamp.TheVariants.{Natural}
 pub use Rattle.stp_grammar.specs.declared.item.StpItem.TheVariants.{Async, Datum, Version}
 pub use Rattle.stp_grammar.specs.declared.packet.Order.TheVariants.{Msn}
 pub use Rattle.stp_grammar.specs.declared.packet.Width.TheVariants.{Sixteen}
-unfoldable pub use Rattle.trace_clock.specs.LastWord.{last_word}
 pub use Rattle.trace_io.specs.Bytes.{AppendsPrefix, TakesFront}
 pub use Rattle.trace_io.specs.Causes.{CountsEmpty, HasCause, faults_after}
 pub use Rattle.trace_stream.specs.Served.{IsLawful, Meaning}

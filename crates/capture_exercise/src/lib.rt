@@ -7,8 +7,6 @@ mod lines;
 mod maker;
 mod plans;
 mod source;
-pub mod source_rows;
-pub mod summary_rows;
 mod writing;
 
 pub use action::Exercise;
