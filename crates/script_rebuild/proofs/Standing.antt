@@ -138,13 +138,14 @@ module _ (w : LineWriter) (port : Port) (lines : List Line2) (s : Stands w port 
       subst (λ (l : Line). PutsAfter w new port lines (One l) r) (sym e) (item_put new id item r order ids turns answers)
 
   -- a byte of the trigger source
-  pub trigger_put : (new : LineWriter) (byte : ℕ) → new.order ≡ w.order → new.encoders ≡ w.encoders →
+  pub trigger_put : (new : LineWriter) (line : Line2) (byte : ℕ) → line ≡ Trigger byte → new.order ≡ w.order →
+      new.encoders ≡ w.encoders →
       turns_of new ≡ turns_of w → is_placed (turns_of w) (Trigger byte) ≡ true →
       formatters.Puts w.formatter new.formatter (tagged 125 (byte ∷ [])) →
-      PutsAfter w new port lines (Trigger byte) (Ok tt)
-  trigger_put new byte order same turns place put =
+      PutsAfter w new port lines line (Ok tt)
+  trigger_put new line byte e order same turns place put =
       let t = so_far w lines in
-      record {
+      subst (λ (l : Line2). PutsAfter w new port lines l (Ok tt)) (sym e) (record {
         told = placed_by (turns_of w) (Trigger byte) true place;
         adds = record {
           stands = stands_line new (Trigger byte) order (ap (λ e. ids_in e.items) same) turns place
@@ -156,7 +157,7 @@ module _ (w : LineWriter) (port : Port) (lines : List Line2) (s : Stands w port 
           kept = put.kept;
           grown = grown_line (Trigger byte) put.more (put.grown port t s.formatter);
         };
-      }
+      })
 
   -- a flush: the kept nibbles are put, and then the segment is ended
   module _ (mid after : Formatter)

@@ -140,26 +140,12 @@ impl LineWriter {
                 self.flush();
                 Ok(())
             }
-            Line2::Trigger(byte) => self.put_trigger(*byte),
+            Line2::Trigger(byte) => {
+                let id = trigger_source(&self.formatter)?;
+                self.formatter.put_all(id, &[*byte]);
+                Ok(())
+            }
         }
-    }
-
-    /// Puts a byte of the trigger source.
-    fn put_trigger(&mut self, byte: u8) -> Result<(), LineFault>
-        requires count { count_of self.old + 100 ≤ COUNT_ROOM }
-        requires room { HasRoom self.old 200 }
-        ensures stp { stp_of self.new ≡ stp_of self.old }
-        ensures order { order_of self.new ≡ order_of self.old }
-        ensures turns { turns_of self.new ≡ turns_of self.old }
-        ensures puts { (port : Port) (lines : List Line2) → Stands self.old port lines →
-            PutsAfter self.old self.new port lines (Trigger byte) result }
-        ensures same { OnErr result (self.new ≡ self.old) }
-        ensures count { count_of self.new ≤ count_of self.old + 100 }
-        ensures room { (more : ℕ) → HasRoom self.old (200 + more) → HasRoom self.new more }
-    {
-        let id = trigger_source(&self.formatter)?;
-        self.formatter.put_all(id, &[byte]);
-        Ok(())
     }
 
     /// Ends the segment: puts the nibbles that are kept of system traces, each with a NULL above it, in increasing

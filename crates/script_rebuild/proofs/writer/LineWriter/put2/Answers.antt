@@ -1,8 +1,11 @@
-use Rattle.std.proofs.Common.{sym, subst, ◌+◌, arith, Ok}
-use Rattle.script_rebuild.specs.Names.{Line2}
+use Rattle.std.proofs.Common.{ℕ, [], ◌∷◌, refl, ◌∙◌, sym, subst, ◌+◌, arith, Ok}
+use Rattle.script_rebuild.specs.Names.{Line2, Puts}
+use Rattle.port_formatter.specs.Formatter.{turns_of}
+use Rattle.script_rebuild.specs.Script.{tagged}
 use Rattle.script_rebuild.specs.PutLine.{PutsAfter}
 use Rattle.script_rebuild.proofs.Rooms.{less_room}
-use Rattle.script_rebuild.proofs.Standing.{flush_after}
+use Rattle.script_rebuild.proofs.Placing.{trigger_placed}
+use Rattle.script_rebuild.proofs.Standing.{flush_after, trigger_put}
 use Rattle.script_rebuild.proofs.writer.LineWriter.put2.Goals as goal
 
 pub returns-in-One-clause-puts : goal.returns-in-One-clause-puts
@@ -22,7 +25,11 @@ pub returns-in-Flush-clause-room : goal.returns-in-Flush-clause-room
 returns-in-Flush-clause-room c = λ more h.
     c.flush.ensures.room more (less_room c.args.self.now.formatter (200 + more) (23 + more) (omega arith) h)
 
-pub returns-in-Trigger-clause-puts : goal.returns-in-Trigger-clause-puts
-returns-in-Trigger-clause-puts c = λ port lines s.
-    subst (λ (l : Line2). PutsAfter c.args.self.now c.put_trigger.new.self port lines l c.put_trigger.result) (sym c.in-Trigger.is)
-    (c.put_trigger.ensures.puts port lines s)
+pub returns-in_ok-id-in-Trigger-clause-puts : goal.returns-in_ok-id-in-Trigger-clause-puts
+returns-in_ok-id-in-Trigger-clause-puts c = λ port lines s.
+    let w = c.args.self.now in
+    let byte = c.in-Trigger.byte in
+    let source = c.in_ok-id-in-Trigger.ensures.ok in
+    let put = subst (λ (n : ℕ). Puts w.formatter c.put_all.new.self (tagged n (byte ∷ []))) source.0 c.put_all.ensures.put in
+    trigger_put w port lines s _ c.args.line.now byte c.in-Trigger.is refl refl c.put_all.ensures.turns
+    (trigger_placed (turns_of w.formatter) byte ∙ source.1) put
