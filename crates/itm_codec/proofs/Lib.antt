@@ -11,3 +11,4 @@ pub mod Wholes
 pub mod Windows
 pub mod Zeros
 mod Looking
+pub mod Skipping

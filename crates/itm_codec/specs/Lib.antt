@@ -5,3 +5,4 @@ pub mod Decoder
 pub mod Parts
 pub mod Answers
 pub mod Windows
+pub mod Hunting

@@ -9,6 +9,7 @@ ghost use Rattle.itm_codec.specs.Windows.{IsSeen};
 
 use crate::cut::cut_packet;
 use crate::front::{first_bits, is_front};
+use crate::hunt::skip_in;
 use crate::sync::zeros_in;
 use crate::whole::{InWindow, WINDOW, packet_in};
 use itm_grammar::packet::ItmPacket;
@@ -276,6 +277,32 @@ impl ItmDecoder {
         ensures none { result ≡ None → Idles self.old self.new }
     {
         self.take_slowly(bytes)
+    }
+
+    /// Takes these bytes in a hunt, wherever they are, up to the first that ends its pattern, or all of them. Answers how
+    /// many it took. They give nothing.
+    #[inline(never)]
+    pub fn skip_part(&mut self, bytes: &[u8]) -> usize
+        requires live { is_live self.old ≡ true }
+        requires room { skipped_by self.old + length bytes.now ≤ COUNT_ROOM }
+        ensures stays { (packets_in (is_hunter self.new) ≡ packets_in (is_hunter self.old))
+            × (is_live self.new ≡ true) }
+        ensures bytes { result ≤ length bytes.now }
+        ensures passes { (u front : List Placed) (last : Placed) → Stands self.old u →
+            units_of (front ++ last ∷ []) ≡ take result bytes.now →
+            Passes (packets_in (is_hunter self.old)) (Stands self.new) u front last None }
+        ensures none { result ≡ 0 → Idles self.old self.new }
+        ensures few { held_of self.new + skipped_by self.new ≤ held_of self.old + skipped_by self.old + result }
+    {
+        if let Mode::Hunting { run, skipped } = self.mode {
+            let skip = skip_in(SYNC, run, bytes);
+            self.mode = Mode::Hunting {
+                run: skip.run,
+                skipped: skipped + skip.bytes as u64,
+            };
+            return skip.bytes;
+        }
+        0
     }
 
     /// Takes these bytes one by one, or those of a synchronisation all at once.

@@ -6,6 +6,7 @@ mod cut;
 mod decoder;
 mod encoder;
 mod front;
+mod hunt;
 pub mod laws;
 mod sync;
 mod whole;

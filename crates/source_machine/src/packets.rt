@@ -89,7 +89,7 @@ pub trait Finds: Machine {
             Self.held_units self.old + Self.skipped_units self.old + 2 * result.bytes };
 
     /// Takes bytes: those within the unfinished packet up to the one in which it ends, with all of that byte, or all of
-    /// them. Where `find` knows what they are, that is faster.
+    /// them; in a hunt those up to the first that ends its pattern. Where `find` knows what they are, that is faster.
     ///
     /// None says nothing of the bytes: then it stands for what it stood for.
     fn take(&mut self, bytes: &[u8]) -> Option<TakenAtOnce<Packet>>
@@ -180,6 +180,18 @@ impl Finds for ItmDecoder {
 
     #[inline(always)]
     fn take(&mut self, bytes: &[u8]) -> Option<TakenAtOnce<Packet>> {
+        if !self.is_locked() {
+            let bytes = self.skip_part(bytes);
+            return if bytes > 0 {
+                Some(TakenAtOnce {
+                    bytes,
+                    half: 0,
+                    item: None,
+                })
+            } else {
+                None
+            };
+        }
         let taken = self.take_part(bytes)?;
         Some(TakenAtOnce {
             bytes: taken.bytes,
