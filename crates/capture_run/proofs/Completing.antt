@@ -6,7 +6,7 @@ use Rattle.std.specs.Prelude.{codes}
 use Rattle.capture_exercise.specs.Summary.{exercise_summary}
 use Rattle.capture_words.specs.declared.job.Task.{Task}
 use Rattle.capture_words.specs.declared.job.Task.TheVariants as tasks
-use Rattle.capture_words.specs.declared.recover.Recover.TheVariants.{Off, On, Near}
+use Rattle.capture_words.specs.declared.recover.Recover.TheVariants.{Off}
 use Rattle.capture_run.specs.Actions.{HasDone, IsSoundInput, limit_of, meaning_of}
 use Rattle.trace_stream.specs.Told.{Notes}
 use Rattle.capture_run.specs.Recovers.{GoesOn, IsRecovered}
@@ -73,13 +73,7 @@ makes : (text : List ℕ) (old new : Streams) (status : Status) → HasMade text
 makes text old new Done run no_write = inl refl
 makes text old new NoMemory run no_write = inr refl
 makes text old new WriteFault run no_write = absurd (no_write refl)
-makes text old new Usage run no_write = absurd run.makes
-makes text old new CaptureFault run no_write = absurd run.makes
-makes text old new ScriptFault run no_write = absurd run.makes
-makes text old new ReadFault run no_write = absurd run.makes
-makes text old new Limit run no_write = absurd run.makes
-makes text old new Recovered run no_write = absurd run.makes
-makes text old new BadImage run no_write = absurd run.makes
+makes text old new status run no_write = absurd run.makes
 
 -- the same note
 said : (old new : Streams) (note : List ℕ) → note ≡ codes "no memory\n" →
@@ -91,26 +85,15 @@ said old new note is noted = subst (Notes old.noted new.noted old.note_faults ne
 recovering : (task : Task) → GoesOn task → ((meaning_of task).fault_status ≡ Recovered)
     × ((meaning_of task).exact ≡ false) × ((limit : ℕ) → limit_of task limit ≡ limit)
 recovering (tasks.Show plan only window Off) on = absurd (on refl)
-recovering (tasks.Show plan only window On) on = (refl, refl, λ limit. refl)
-recovering (tasks.Show plan only window Near) on = (refl, refl, λ limit. refl)
+recovering (tasks.Show plan only window recover) on = (refl, refl, λ limit. refl)
 recovering (tasks.Check plan Off kinds) on = absurd (on refl)
-recovering (tasks.Check plan On false) on = (refl, refl, λ limit. refl)
-recovering (tasks.Check plan On true) on = (refl, refl, λ limit. refl)
-recovering (tasks.Check plan Near false) on = (refl, refl, λ limit. refl)
-recovering (tasks.Check plan Near true) on = (refl, refl, λ limit. refl)
+recovering (tasks.Check plan recover false) on = (refl, refl, λ limit. refl)
+recovering (tasks.Check plan recover true) on = (refl, refl, λ limit. refl)
 recovering (tasks.Text plan port Off) on = absurd (on refl)
-recovering (tasks.Text plan port On) on = (refl, refl, λ limit. refl)
-recovering (tasks.Text plan port Near) on = (refl, refl, λ limit. refl)
+recovering (tasks.Text plan port recover) on = (refl, refl, λ limit. refl)
 recovering (tasks.Vcd plan hz Off) on = absurd (on refl)
-recovering (tasks.Vcd plan hz On) on = (refl, refl, λ limit. refl)
-recovering (tasks.Vcd plan hz Near) on = (refl, refl, λ limit. refl)
-recovering (tasks.Split frames id) on = absurd on
-recovering (tasks.Rebuild plan sync half) on = absurd on
-recovering (tasks.Funnel plan sync half turns) on = absurd on
-recovering tasks.Realign on = absurd on
-recovering (tasks.Ring size) on = absurd on
-recovering (tasks.Unring size at full) on = absurd on
-recovering (tasks.Exercise items lose) on = absurd on
+recovering (tasks.Vcd plan hz recover) on = (refl, refl, λ limit. refl)
+recovering task on = absurd on
 
 module _ (task : Task) (limit : ℕ) (old new : Streams) (status : Status) (run : HasDone task limit old new status)
   where

@@ -9,7 +9,8 @@ use Rattle.trace_stream.specs.Served.{Ends, HasServed, IsAllRead}
 use Rattle.trace_stream.specs.Written.{GrowsOnly}
 use Rattle.source_events.specs.declared.plan.Plan.{Plan}
 use Rattle.trace_stream.specs.declared.outcome.Outcome.{Outcome}
-use Rattle.trace_stream.specs.declared.outcome.Outcome.TheVariants.{AtEnd, FaultFound, WriteFailed, OverLimit}
+use Rattle.trace_stream.specs.declared.outcome.Outcome.TheVariants.{AtEnd, FaultFound, ReadFailed, WriteFailed}
+use Rattle.trace_stream.specs.declared.outcome.Outcome.TheVariants.{OverLimit}
 use Rattle.capture_exercise.specs.declared.maker.TheConstants.{MOST_BYTES}
 use Rattle.capture_exercise.specs.Exercise.{exercise_plan, exercise_capture, exercise_rest}
 use Rattle.capture_exercise.specs.Summary.{IsFaulty, exercise_meaning, exercise_ending, exercise_summary}
@@ -69,18 +70,11 @@ module _ (there : List ℕ → Type 0) (items lose limit : ℕ) (left : Option (
   abbrev over : Streams
   over = record { left = left; held = new.held; noted = new.noted; note_faults = new.note_faults }
 
-  pub made_done : HasServed there (exercise_meaning (plan_for items)) limit before after recent AtEnd →
-      Notes old.noted new.noted old.note_faults new.note_faults [] → HasMade (exercise_summary items lose) started over Done
-  made_done s n =
-      let all = all_of (exercise_rest items lose) rest_left s.bytes s.lost (s.ended refl) in
-      record {
-        out = s.out;
-        note = [];
-        lost = keeps left;
-        gained = s.gained;
-        noted = n;
-        makes = (s.outcome.2 ∙ ap (exercise_ending (plan_for items)) all, refl);
-      }
+  finished : (outcome : Outcome) (s : HasServed there (exercise_meaning (plan_for items)) limit before after recent outcome) →
+      Notes old.noted new.noted old.note_faults new.note_faults [] → s.out ≡ exercise_summary items lose →
+      HasMade (exercise_summary items lose) started over Done
+  finished outcome s n is =
+      record { out = s.out; note = []; lost = keeps left; gained = s.gained; noted = n; makes = (is, refl) }
 
   -- at a fault the rest tells nothing more
   ended_at : (bytes : List ℕ) → Consumes (Some (exercise_rest items lose)) rest_left bytes →
@@ -92,24 +86,27 @@ module _ (there : List ℕ → Type 0) (items lose limit : ℕ) (left : Option (
       front.1 ∙ ap (λ (l : List ℕ). l ++ front.0) (sym (take-append-drop limit bytes)) ∙ append_assoc (take limit bytes) (drop limit bytes) front.0 in
       sym (ap (exercise_ending (plan_for items)) parts ∙ (exercise_lawful (plan_for items)).ending_stays (take limit bytes) (drop limit bytes ++ front.0) broken)
 
-  pub made_stopped : HasServed there (exercise_meaning (plan_for items)) limit before after recent FaultFound →
-      Notes old.noted new.noted old.note_faults new.note_faults [] → HasMade (exercise_summary items lose) started over Done
-  made_stopped s n =
-      record {
-        out = s.out;
-        note = [];
-        lost = keeps left;
-        gained = s.gained;
-        noted = n;
-        makes = (s.outcome.1 ∙ ended_at s.bytes s.lost s.outcome.0.broken, refl);
-      }
-
-  pub never_over : HasServed there (exercise_meaning (plan_for items)) limit before after recent OverLimit →
+  never_over : HasServed there (exercise_meaning (plan_for items)) limit before after recent OverLimit →
       length (exercise_rest items lose) ≤ limit → ⊥
   never_over s few =
       let front = front_of (exercise_rest items lose) rest_left s.bytes s.lost in
       let len = ap length front.1 ∙ length-append s.bytes front.0 in
       omega (arith, few, len, s.outcome.1)
+
+  -- where none fails all of the summary is out
+  pub made_all : (outcome : Outcome) → (outcome ≡ WriteFailed → ⊥) → (outcome ≡ ReadFailed → ⊥) →
+      length (exercise_rest items lose) ≤ limit →
+      HasServed there (exercise_meaning (plan_for items)) limit before after recent outcome →
+      Notes old.noted new.noted old.note_faults new.note_faults [] →
+      HasMade (exercise_summary items lose) started over Done
+  made_all AtEnd no_write no_read few s n =
+      let all = all_of (exercise_rest items lose) rest_left s.bytes s.lost (s.ended refl) in
+      finished AtEnd s n (s.outcome.2 ∙ ap (exercise_ending (plan_for items)) all)
+  made_all FaultFound no_write no_read few s n =
+      finished FaultFound s n (s.outcome.1 ∙ ended_at s.bytes s.lost s.outcome.0.broken)
+  made_all OverLimit no_write no_read few s n = absurd (never_over s few)
+  made_all ReadFailed no_write no_read few s n = absurd (no_read refl)
+  made_all WriteFailed no_write no_read few s n = absurd (no_write refl)
 
   -- a failed write has a front of the summary out
   at_end : (bytes : List ℕ) → Consumes (Some (exercise_rest items lose)) rest_left bytes → IsAtEnd rest_left → length bytes ≤ limit →

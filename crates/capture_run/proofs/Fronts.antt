@@ -1,14 +1,15 @@
 -- What a run of `show` wrote follows the whole capture, whose front may be lost.
 use Rattle.std.proofs.Common.{◌≡◌, ℕ, List, ◌++◌, ap, sym, ◌∙◌, subst, None}
-use Rattle.std.specs.Prelude.{Result, Ok, Err}
 use Rattle.capture_actions.specs.Listing.{listing, listed, ending_by}
 use Rattle.capture_actions.specs.declared.list_plan.ListPlan.{ListPlan}
-use Rattle.capture_words.specs.Calls.{AsksFor}
+use Rattle.capture_words.proofs.Calls.{one_job}
+use Rattle.capture_words.specs.Calls.{AsksFor, AskedBy}
 use Rattle.capture_words.specs.declared.job.Job.{Job}
 use Rattle.capture_words.specs.declared.job.Task.{Task}
 use Rattle.capture_words.specs.declared.job.Task.TheVariants.{Show}
+use Rattle.capture_words.specs.declared.reading.Asked.{Asked}
+use Rattle.capture_words.specs.declared.reading.Asked.TheVariants.{Do}
 use Rattle.capture_words.specs.declared.recover.Recover.TheVariants.{Off}
-use Rattle.capture_words.specs.declared.usage.UsageFault.{UsageFault}
 use Rattle.resync_laws.specs.Report.{rest_plan}
 use Rattle.resync_laws.proofs.ReportRest.{report_follows}
 use Rattle.resync_laws.proofs.Skipping.{tail_skips}
@@ -22,13 +23,11 @@ use Rattle.capture_run.specs.declared.status.Status.{Status}
 use Rattle.capture_run.specs.declared.status.Status.TheVariants.{Done}
 use Rattle.capture_run.proofs.Running.{same_lost}
 
--- words ask for one job
-abbrev job_or : Job → Result Job UsageFault → Job
-job_or other (Ok job) = job
-job_or other (Err fault) = other
-
-pub same_job : (words : List (List ℕ)) (a b : Job) → AsksFor words a → AsksFor words b → a ≡ b
-same_job words a b p q = ap (job_or a) (sym p.job_is ∙ q.job_is)
+-- words ask for one job, which is that of which they are told
+pub same_job : (words : List (List ℕ)) (job mine : Job) (told : Asked) → AsksFor words job → AskedBy words told →
+    told ≡ Do mine → job ≡ mine
+same_job words job mine told asks by is =
+    let asked : AsksFor words mine = subst (AskedBy words) is by in one_job words job mine asks asked
 
 -- of the task that lists the rest, where all is done
 show_follows : (limit : ℕ) (old new : Streams) (whole : Plan) (lost left : List ℕ)

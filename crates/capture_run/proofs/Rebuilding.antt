@@ -13,8 +13,7 @@ use Rattle.script_text.specs.declared.version_two.Line2.{Line2}
 use Rattle.source_events.specs.Plan.{is_sound}
 use Rattle.capture_words.specs.Jobs.{IsSoundTask}
 use Rattle.capture_words.specs.declared.job.Task.{Task}
-use Rattle.capture_words.specs.declared.job.Task.TheVariants.{Show, Split, Check, Rebuild, Exercise, Realign, Ring}
-use Rattle.capture_words.specs.declared.job.Task.TheVariants.{Unring, Text, Funnel, Vcd}
+use Rattle.capture_words.specs.declared.job.Task.TheVariants.{Rebuild, Funnel}
 use Rattle.capture_run.specs.Actions.{meaning_of, rebuilding, HasDone}
 use Rattle.capture_run.specs.Rebuilds.{Rebuilds, Writes, straight, funnelled}
 use Rattle.capture_run.specs.Run.{HasRun, Streams, Loses}
@@ -49,15 +48,7 @@ module _ (limit : ℕ) (old new : Streams) (script : List ℕ) (loses : Loses ol
   by_task (Funnel plan sync half turns) p sound run is =
       subst (λ (q : RebuildPlan). Rebuilds q script old.held new.held) is
       (rebuilds (funnelled plan sync half turns) sound.0 sound.1 (sound.2.2, sound.2.1) run)
-  by_task (Show plan only window recover) p sound run is = absurd is
-  by_task (Split frames id) p sound run is = absurd is
-  by_task (Text plan port recover) p sound run is = absurd is
-  by_task (Vcd plan hz recover) p sound run is = absurd is
-  by_task (Check plan recover kinds) p sound run is = absurd is
-  by_task Realign p sound run is = absurd is
-  by_task (Ring size) p sound run is = absurd is
-  by_task (Unring size at full) p sound run is = absurd is
-  by_task (Exercise items lose) p sound run is = absurd is
+  by_task task p sound run is = absurd is
 
   pub rebuilds_script : (task : Task) (p : RebuildPlan) (status : Status) → IsSoundTask task →
       HasDone task limit old new status → Writes p task → status ≡ Done → Rebuilds p script old.held new.held

@@ -20,7 +20,7 @@ use Rattle.trace_text.specs.NoteText.{image_line, limit_line}
 use Rattle.capture_run.specs.Run.{HasMade, HasRun, TaskMeaning, TaskNotes, task_of, Streams, Stops, EndsLate}
 use Rattle.capture_run.specs.Run.{WritesBy, Loses}
 use Rattle.capture_run.specs.declared.actions.FaultNote.{FaultNote}
-use Rattle.capture_run.specs.declared.actions.FaultNote.TheVariants.{Capture, Script, Recovery, Image}
+use Rattle.capture_run.specs.declared.actions.FaultNote.TheVariants.{Image}
 use Rattle.capture_run.specs.declared.status.Status.{Status}
 use Rattle.capture_run.specs.declared.status.Status.TheVariants.{Done, NoMemory, ReadFault, WriteFault}
 use Rattle.capture_run.proofs.EachTask.{Kind, kind_of}
@@ -39,29 +39,19 @@ ends s = record { left = s.left; held = s.held }
 writes_late : (fault : FaultNote) (m : TaskMeaning) (limit : ℕ) (left : Option (List ℕ)) (bytes out note : List ℕ)
     → status_of fault ≡ m.fault_status → is_image fault ≡ m.exact
     → EndsLate m limit left bytes out note → WritesBy m limit left (status_of fault) bytes out note
-writes_late (Capture fault) m limit left bytes out note e x w = (sym e, inr w)
-writes_late (Script fault) m limit left bytes out note e x w = (sym e, inr w)
-writes_late Recovery m limit left bytes out note e x w = (sym e, inr w)
 writes_late (Image size) m limit left bytes out note e x w = (sym x, inl w)
+writes_late fault m limit left bytes out note e x w = (sym e, inr w)
 
 writes_stop : (fault : FaultNote) (m : TaskMeaning) (limit : ℕ) (left : Option (List ℕ)) (bytes out note : List ℕ)
     → status_of fault ≡ m.fault_status → is_image fault ≡ m.exact
     → (m.exact ≡ true → m.action.faulty (take limit bytes) → ⊥) → Stops m limit left bytes out note → WritesBy m limit left (status_of fault) bytes out note
-writes_stop (Capture fault) m limit left bytes out note e x sound w = (sym e, inl w)
-writes_stop (Script fault) m limit left bytes out note e x sound w = (sym e, inl w)
-writes_stop Recovery m limit left bytes out note e x sound w = (sym e, inl w)
 writes_stop (Image size) m limit left bytes out note e x sound w = absurd (sound (sym x) w.1.0.broken)
+writes_stop fault m limit left bytes out note e x sound w = (sym e, inl w)
 
 writes_over : (fault : FaultNote) (m : TaskMeaning) (limit : ℕ) (left : Option (List ℕ)) (bytes out recent before : List ℕ)
     → is_image fault ≡ m.exact → (m.exact ≡ true → text_of fault [] ≡ m.fault_note bytes)
     → before ≡ m.noted (take limit bytes) → ServedBy m.action limit left OverLimit bytes out recent
     → WritesBy m limit left (over_status fault) bytes out (before ++ over_text fault limit)
-writes_over (Capture fault) m limit left bytes out recent before x says is w =
-    (sym x, w, ap (λ (l : List ℕ). l ++ limit_line limit) is)
-writes_over (Script fault) m limit left bytes out recent before x says is w =
-    (sym x, w, ap (λ (l : List ℕ). l ++ limit_line limit) is)
-writes_over Recovery m limit left bytes out recent before x says is w =
-    (sym x, w, ap (λ (l : List ℕ). l ++ limit_line limit) is)
 writes_over (Image size) m limit left bytes out recent before x says is w = (
   sym x,
   inr (
@@ -70,6 +60,8 @@ writes_over (Image size) m limit left bytes out recent before x says is w = (
         ∙ ap (λ (l : List ℕ). m.noted (take limit bytes) ++ l) (says (sym x)),
   ),
 )
+writes_over fault m limit left bytes out recent before x says is w =
+    (sym x, w, ap (λ (l : List ℕ). l ++ limit_line limit) is)
 
 -- what the notes of a run show at a moment
 abbrev pub notes_of : Streams → Noted

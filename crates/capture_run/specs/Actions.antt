@@ -142,17 +142,11 @@ showing (Some guesses) p = listing_on (going_on p guesses)
 
 -- A summary up to a capture's first fault, and one over all its faults, with the counts of kinds or without. No guess is
 -- counted.
-abbrev pub summing : Bool → Plan → TaskMeaning
-summing false plan = task_of (check_meaning plan) nothing (captured last_note)
-summing true plan = task_of (kinds_meaning plan) nothing (captured last_note)
-
-abbrev pub summing_on : Bool → Plan → TaskMeaning
-summing_on false plan = task_of (recovering_summary.check_meaning plan) nothing (recovered_notes plan)
-summing_on true plan = task_of (kinds_meaning_on plan) nothing (recovered_notes plan)
-
 abbrev pub checking : Option Bool → Bool → Plan → TaskMeaning
-checking None kinds plan = summing kinds plan
-checking (Some guesses) kinds plan = summing_on kinds plan
+checking None false plan = task_of (check_meaning plan) nothing (captured last_note)
+checking None true plan = task_of (kinds_meaning plan) nothing (captured last_note)
+checking (Some guesses) false plan = task_of (recovering_summary.check_meaning plan) nothing (recovered_notes plan)
+checking (Some guesses) true plan = task_of (kinds_meaning_on plan) nothing (recovered_notes plan)
 
 -- the text of a stimulus port, up to a capture's first fault, or over all its faults, which are notes
 abbrev pub texting : Option Bool → PortTextPlan → TaskMeaning

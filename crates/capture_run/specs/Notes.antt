@@ -48,20 +48,14 @@ status_of (Image size) = BadImage
 
 -- only what is told of an image may be told of an input that has too many bytes
 abbrev pub is_image : FaultNote → Bool
-is_image (Capture fault) = false
-is_image (Script fault) = false
-is_image Recovery = false
 is_image (Image size) = true
+is_image fault = false
 
 -- what is noted where the input has more bytes than the limit, and how a run ends then
 abbrev pub over_text : FaultNote → ℕ → List ℕ
-over_text (Capture fault) limit = limit_line limit
-over_text (Script fault) limit = limit_line limit
-over_text Recovery limit = limit_line limit
 over_text (Image size) limit = image_line size
+over_text fault limit = limit_line limit
 
 abbrev pub over_status : FaultNote → Status
-over_status (Capture fault) = Limit
-over_status (Script fault) = Limit
-over_status Recovery = Limit
 over_status (Image size) = BadImage
+over_status fault = Limit

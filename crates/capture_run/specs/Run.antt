@@ -9,8 +9,8 @@ use Rattle.trace_stream.specs.declared.outcome.Outcome.TheVariants.{OverLimit}
 use Rattle.trace_text.specs.NoteText.{limit_line}
 use Rattle.trace_stream.specs.Told.{Notes}
 use Rattle.capture_run.specs.declared.status.Status.{Status}
-use Rattle.capture_run.specs.declared.status.Status.TheVariants.{Done, Usage, CaptureFault, ReadFault, WriteFault}
-use Rattle.capture_run.specs.declared.status.Status.TheVariants.{NoMemory, ScriptFault, Limit, Recovered, BadImage}
+use Rattle.capture_run.specs.declared.status.Status.TheVariants.{Done, Usage, ReadFault, WriteFault}
+use Rattle.capture_run.specs.declared.status.Status.TheVariants.{NoMemory, Limit, BadImage}
 
 -- What a task makes of the bytes that it reads: what its action does; what is noted of them as they come; which bytes
 -- have a fault where they are all of the input, one that further bytes might have mended; what is noted where they are all and have none; what is noted
@@ -93,14 +93,8 @@ abbrev pub WritesBy : TaskMeaning → ℕ → Option (List ℕ) → Status → L
 WritesBy m limit left Done bytes out note =
     ServedBy m.action limit left AtEnd bytes out [] × IsAtEnd left × (m.late bytes ≡ false)
     × (note ≡ m.noted bytes ++ m.done_note bytes)
-WritesBy m limit left CaptureFault bytes out note =
-    (m.fault_status ≡ CaptureFault) × (Stops m limit left bytes out note ⊎ EndsLate m limit left bytes out note)
-WritesBy m limit left ScriptFault bytes out note =
-    (m.fault_status ≡ ScriptFault) × (Stops m limit left bytes out note ⊎ EndsLate m limit left bytes out note)
 WritesBy m limit left BadImage bytes out note =
     (m.exact ≡ true) × (EndsLate m limit left bytes out note ⊎ EndsOver m limit left bytes out note)
-WritesBy m limit left Recovered bytes out note =
-    (m.fault_status ≡ Recovered) × (Stops m limit left bytes out note ⊎ EndsLate m limit left bytes out note)
 WritesBy m limit left ReadFault bytes out note =
     ServedBy m.action limit left ReadFailed bytes out [] × (note ≡ m.noted bytes ++ codes "read fault\n")
 WritesBy m limit left Limit bytes out note =
@@ -109,6 +103,9 @@ WritesBy m limit left Limit bytes out note =
 WritesBy m limit left WriteFault bytes out note = FailsWriting m limit left bytes out note
 WritesBy m limit left NoMemory bytes out note = (bytes ≡ []) × (out ≡ []) × (note ≡ codes "no memory\n")
 WritesBy m limit left Usage bytes out note = ⊥
+-- that of a fault: CaptureFault, ScriptFault or Recovered
+WritesBy m limit left status bytes out note =
+    (m.fault_status ≡ status) × (Stops m limit left bytes out note ⊎ EndsLate m limit left bytes out note)
 
 -- The bytes are those that the input lost, at most one past the limit; out is what the output gained; and the note is
 -- what the notes gained, unless they failed.
@@ -127,13 +124,7 @@ abbrev pub MakesBy : List ℕ → Status → List ℕ → List ℕ → Type 0
 MakesBy text Done out note = (out ≡ text) × (note ≡ [])
 MakesBy text WriteFault out note = GrowsOnly out text × (note ≡ codes "write fault\n")
 MakesBy text NoMemory out note = (out ≡ []) × (note ≡ codes "no memory\n")
-MakesBy text Usage out note = ⊥
-MakesBy text CaptureFault out note = ⊥
-MakesBy text ScriptFault out note = ⊥
-MakesBy text ReadFault out note = ⊥
-MakesBy text Limit out note = ⊥
-MakesBy text Recovered out note = ⊥
-MakesBy text BadImage out note = ⊥
+MakesBy text status out note = ⊥
 
 pub record HasMade (text : List ℕ) (old new : Streams) (status : Status) : Type 0 where
   pub out : List ℕ

@@ -6,7 +6,7 @@ ghost use Rattle.trace_io.specs.Causes.{Rose};
 ghost use Rattle.capture_exercise.specs.Exercise.{exercise_capture};
 ghost use Rattle.capture_exercise.specs.declared.maker.TheConstants.{MOST_ITEMS, MOST_BYTES};
 ghost use Rattle.capture_exercise.specs.Summary.{exercise_summary};
-ghost use Rattle.capture_run.specs.Run.{HasMade, streams, IsDoneOrNoMemory};
+ghost use Rattle.capture_run.specs.Run.{HasMade, streams};
 
 use crate::notes::note;
 use crate::status::Status;
@@ -60,15 +60,10 @@ pub fn run_exercise<O: Sink, N: Sink>(
         output,
         notes,
     );
-    match outcome {
-        Outcome::WriteFailed => {
-            note(notes, b"write fault\n");
-            Status::WriteFault
-        }
-        // The summary tells a fault of what is left, if it has one. No read of it fails, and it is within the limit.
-        Outcome::AtEnd => Status::Done,
-        Outcome::FaultFound => Status::Done,
-        Outcome::ReadFailed => Status::Done,
-        Outcome::OverLimit => Status::Done,
+    if let Outcome::WriteFailed = outcome {
+        note(notes, b"write fault\n");
+        return Status::WriteFault;
     }
+    // The summary tells a fault of what is left, if it has one. No read of it fails, and it is within the limit.
+    Status::Done
 }

@@ -7,7 +7,7 @@ ghost use Rattle.trace_stream.specs.Fresh.{IsFresh};
 ghost use Rattle.trace_stream.specs.declared.limits.TheConstants.{GREATEST_CAPTURE};
 ghost use Rattle.capture_words.specs.Jobs.{IsSoundTask};
 ghost use Rattle.capture_words.specs.Values.{guesses_of};
-ghost use Rattle.capture_run.specs.Actions.{HasDone, checking, dumping, showing, summing, summing_on, texting};
+ghost use Rattle.capture_run.specs.Actions.{HasDone, checking, dumping, showing, texting};
 ghost use Rattle.source_events.specs.Plan.{is_sound};
 ghost use Rattle.trace_stream.specs.Told.{Notes};
 ghost use Rattle.capture_run.specs.Run.{HasRun, task_of, streams};
@@ -212,65 +212,7 @@ fn run_vcd<I: Source, O: Sink, N: Sink>(
     }
 }
 
-/// Counts what is in a capture, up to its first fault, with or without the items of each kind.
-fn run_summary<I: Source, O: Sink, N: Sink>(
-    buffers: &mut Buffers,
-    plan: Plan,
-    kinds: bool,
-    limit: u64,
-    input: &mut I,
-    output: &mut O,
-    notes: &mut N,
-) -> Status
-    requires empty { (buffers.old.pending ≡ []) × (buffers.old.recent ≡ []) }
-    requires sound { is_sound plan ≡ true }
-    requires small { limit ≤ GREATEST_CAPTURE }
-    ensures ran { let before = streams (I.left input.old) (O.held output.old) (N.held notes.old) (N.faults notes.old) in
-        let after = streams (I.left input.new) (O.held output.new) (N.held notes.new) (N.faults notes.new) in
-        HasRun (summing kinds plan) limit before after result }
-    ensures one_empty_read { I.empty_reads input.new ≤ I.empty_reads input.old + 1 }
-    ensures read_cause { result ≡ Status.ReadFault → Rose (I.faults input.old) (I.faults input.new) }
-    ensures write_cause { result ≡ Status.WriteFault → Rose (O.faults output.old) (O.faults output.new) }
-{
-    if kinds {
-        let mut action = KindCheck::new(plan);
-        run_action(buffers, &mut action, limit, input, output, notes)
-    } else {
-        let mut action = Check::new(plan);
-        run_action(buffers, &mut action, limit, input, output, notes)
-    }
-}
-
-/// Counts what is in a capture, and all its faults, with or without the items of each kind.
-fn run_summary_on<I: Source, O: Sink, N: Sink>(
-    buffers: &mut Buffers,
-    plan: Plan,
-    kinds: bool,
-    limit: u64,
-    input: &mut I,
-    output: &mut O,
-    notes: &mut N,
-) -> Status
-    requires empty { (buffers.old.pending ≡ []) × (buffers.old.recent ≡ []) }
-    requires sound { is_sound plan ≡ true }
-    requires small { limit ≤ GREATEST_CAPTURE }
-    ensures ran { let before = streams (I.left input.old) (O.held output.old) (N.held notes.old) (N.faults notes.old) in
-        let after = streams (I.left input.new) (O.held output.new) (N.held notes.new) (N.faults notes.new) in
-        HasRun (summing_on kinds plan) limit before after result }
-    ensures one_empty_read { I.empty_reads input.new ≤ I.empty_reads input.old + 1 }
-    ensures read_cause { result ≡ Status.ReadFault → Rose (I.faults input.old) (I.faults input.new) }
-    ensures write_cause { result ≡ Status.WriteFault → Rose (O.faults output.old) (O.faults output.new) }
-{
-    if kinds {
-        let mut action = RecoveringKinds::new(plan);
-        run_action(buffers, &mut action, limit, input, output, notes)
-    } else {
-        let mut action = RecoveringCheck::new(plan);
-        run_action(buffers, &mut action, limit, input, output, notes)
-    }
-}
-
-/// Counts what is in a capture, up to its first fault or with all its faults.
+/// Counts what is in a capture, up to its first fault or with all its faults, and with or without the items of each kind.
 fn run_check<I: Source, O: Sink, N: Sink>(
     buffers: &mut Buffers,
     plan: Plan,
@@ -291,9 +233,23 @@ fn run_check<I: Source, O: Sink, N: Sink>(
     ensures read_cause { result ≡ Status.ReadFault → Rose (I.faults input.old) (I.faults input.new) }
     ensures write_cause { result ≡ Status.WriteFault → Rose (O.faults output.old) (O.faults output.new) }
 {
-    match recover.guesses() {
-        None => run_summary(buffers, plan, kinds, limit, input, output, notes),
-        Some(_) => run_summary_on(buffers, plan, kinds, limit, input, output, notes),
+    match (recover.guesses(), kinds) {
+        (None, false) => {
+            let mut action = Check::new(plan);
+            run_action(buffers, &mut action, limit, input, output, notes)
+        }
+        (None, true) => {
+            let mut action = KindCheck::new(plan);
+            run_action(buffers, &mut action, limit, input, output, notes)
+        }
+        (Some(_), false) => {
+            let mut action = RecoveringCheck::new(plan);
+            run_action(buffers, &mut action, limit, input, output, notes)
+        }
+        (Some(_), true) => {
+            let mut action = RecoveringKinds::new(plan);
+            run_action(buffers, &mut action, limit, input, output, notes)
+        }
     }
 }
 

@@ -24,7 +24,6 @@ mod exercise;
 mod jobs;
 pub mod laws;
 mod notes;
-mod rows;
 mod status;
 
 use capture_words::{Asked, read_words};

@@ -1,6 +1,4 @@
-use Rattle.std.proofs.Common.{◌≡◌, ◌≤◌, List, ℕ, length, map, subst, sym, ap, ◌∙◌}
-use Rattle.std.specs.String.{string_bytes}
-use Rattle.capture_words.specs.Calls.{AsksFor, AskedBy}
+use Rattle.std.proofs.Common.{◌≤◌, length, subst}
 use Rattle.capture_words.specs.declared.job.Job.{Job}
 use Rattle.capture_run.specs.Actions.{HasDone, IsSoundInput, limit_of}
 use Rattle.capture_run.specs.Fronts.{ListsRest}
@@ -21,10 +19,8 @@ returns-in-Do-clause-memory_note g c = λ none.
 
 pub returns-in-Do-clause-complete : goal.returns-in-Do-clause-complete
 returns-in-Do-clause-complete g c = λ job bytes asks loses no_read no_write within sound.
-    let words : List (List ℕ) = map string_bytes c.args.words.now in
     let mine : Job = c.in-Do.job in
-    let asked : AsksFor words mine = subst (AskedBy words) c.in-Do.is c.read_words.ensures.asked in
-    let same = same_job words job mine asks asked in
+    let same = same_job _ job mine _ asks c.read_words.ensures.asked c.in-Do.is in
     complete mine.task mine.limit _ _ c.run_job.result c.run_job.ensures.ran bytes loses
     (subst (λ (j : Job). length bytes ≤ limit_of j.task j.limit) same within)
     (subst (λ (j : Job). IsSoundInput j.task bytes) same sound)
@@ -32,29 +28,23 @@ returns-in-Do-clause-complete g c = λ job bytes asks loses no_read no_write wit
 
 pub returns-in-Do-clause-goes_on : goal.returns-in-Do-clause-goes_on
 returns-in-Do-clause-goes_on g c = λ job bytes asks on loses no_read no_write within.
-    let words : List (List ℕ) = map string_bytes c.args.words.now in
     let mine : Job = c.in-Do.job in
-    let asked : AsksFor words mine = subst (AskedBy words) c.in-Do.is c.read_words.ensures.asked in
-    let same = same_job words job mine asks asked in
+    let same = same_job _ job mine _ asks c.read_words.ensures.asked c.in-Do.is in
     goes_on mine.task mine.limit _ _ c.run_job.result c.run_job.ensures.ran bytes
     (subst (λ (j : Job). GoesOn j.task) same on) loses (subst (λ (j : Job). length bytes ≤ j.limit) same within)
     (λ e. no_read (c.run_job.ensures.read_cause e)) (λ e. no_write (c.run_job.ensures.write_cause e))
 
 pub returns-in-Do-clause-fronts : goal.returns-in-Do-clause-fronts
 returns-in-Do-clause-fronts g c = λ job whole lost bytes asks lists loses sound done.
-    let words : List (List ℕ) = map string_bytes c.args.words.now in
     let mine : Job = c.in-Do.job in
-    let asked : AsksFor words mine = subst (AskedBy words) c.in-Do.is c.read_words.ensures.asked in
-    let same = same_job words job mine asks asked in
+    let same = same_job _ job mine _ asks c.read_words.ensures.asked c.in-Do.is in
     follows_whole mine.task mine.limit _ _ c.run_job.result whole lost bytes c.run_job.ensures.ran
     (subst (λ (j : Job). ListsRest whole j.task) same lists) done loses sound
 
 pub returns-in-Do-clause-reads_back : goal.returns-in-Do-clause-reads_back
 returns-in-Do-clause-reads_back g c = λ job p script asks writes loses done.
-    let words : List (List ℕ) = map string_bytes c.args.words.now in
     let mine : Job = c.in-Do.job in
-    let asked : AsksFor words mine = subst (AskedBy words) c.in-Do.is c.read_words.ensures.asked in
-    let same = same_job words job mine asks asked in
+    let same = same_job _ job mine _ asks c.read_words.ensures.asked c.in-Do.is in
     rebuilds_script mine.limit _ _ script loses mine.task p c.run_job.result
     (c.read_words.ensures.sound mine c.in-Do.is) c.run_job.ensures.ran
     (subst (λ (j : Job). Writes p j.task) same writes) done
