@@ -7,7 +7,6 @@ mod hearer;
 mod mapped;
 mod near;
 mod port;
-pub mod rows;
 mod run;
 mod source;
 
