@@ -66,7 +66,7 @@ fn hear_answer<V: Hearer>(id: SourceId, at: u64, answer: Answer, out: &mut V, to
 }
 
 impl MappedSource {
-    ghost use Rattle.std.specs.Prelude.{ℕ, ◌&&◌};
+    ghost use Rattle.std.specs.Prelude.{ℕ, ◌&&◌, ◌^◌};
     ghost use Rattle.trace_values.specs.ReadingModes.{packets_hunt};
     ghost use Rattle.source_machine.specs.Units.{reads_by};
     ghost use Rattle.stretch_readings.specs.Stretches.{Stretches, before, from_fault};
@@ -175,6 +175,7 @@ impl MappedSource {
         to: &mut V::To,
     ) -> usize
         requires from { from < length (R.cells run.now) }
+        requires fits { from + 1 < 2 ^ 64 }
         requires few { total_of self.old + 6 * (length (R.cells run.now) - from) ≤ COUNT_ROOM }
         requires room { 2 * (length (R.cells run.now) - from) ≤ V.room (out.old, to.old) }
         ensures within { (from < result) × (result ≤ length (R.cells run.now)) }

@@ -14,6 +14,7 @@ take_others-requires g c =
     let size = between_all c.args.from c.take_found-found.result (g.R.Run.cells c.args.run.now) a b in
     record {
       from = (let t = c.if-found-len.true in let e = c.len.ensures in omega (arith, t, e));
+      fits = (let t = c.if-found-len.true in let e = c.len.type_inv in omega (arith, t, e));
       few = (let f = found.takes.few in let r = c.requires.few in omega (arith, size, f, r, a, b));
       room = (let f = found.takes.space in let r = c.requires.room in omega (arith, size, f, r, a, b));
     }
