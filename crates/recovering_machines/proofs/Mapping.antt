@@ -1,7 +1,7 @@
 -- A run of a mapped source, cell by cell.
 use Rattle.std.proofs.Common.{◌≡◌, ℕ, ◌+◌, ◌≤◌, List, [], ◌∷◌, ◌++◌, length-append, map, refl, sym, ◌∙◌, ap}
 use Rattle.std.proofs.Common.{arith, subst, append_assoc, append-nil, cond, drop, inl, inr, Some, Bool, true, false, ◌<◌}
-use Rattle.std.specs.Prelude.{flat_map}
+use Rattle.std.specs.Prelude.{flat_map, ◌&&◌}
 use Rattle.std.proofs.lemmas.List.{append_cancel_left, map-append}
 use Rattle.trace_values.specs.declared.cell.Cell.{Cell}
 use Rattle.trace_values.specs.Placed.{Place, Placed}
@@ -358,3 +358,14 @@ module _ {S : Type 0} (gets : S → List (Event (Heard Packet)) → S → Type 0
         let g = ap (λ (x : Guess). total_of (record { sure = new.sure; guess = x; guesses = new.guesses })) guess in
         omega (arith, f, g));
   }
+
+  -- and where nothing is guessed, too
+  pub mapped_packets : (old new : MappedSource) (a b : S) (cells : List Cell) → guesses_of new ≡ guesses_of old →
+      new.guess ≡ old.guess → (guesses_of old && old.guess.is_reading) ≡ false →
+      TakesRun gets room id cells old.sure new.sure a b →
+      ((r : Stretches) → Stands old r → GoesOn old.sure r cells) → TakesMapped gets room id cells old new a b
+  mapped_packets old new a b cells same guess idle t goes = by (guesses_of old) refl where
+    by : (g : Bool) → guesses_of old ≡ g → TakesMapped gets room id cells old new a b
+    by true e = mapped_found old new a b cells e same guess
+        (sym (ap (λ (x : Bool). x && old.guess.is_reading) e) ∙ idle) t goes
+    by false e = mapped_sure old new a b cells e same guess t

@@ -6,4 +6,3 @@ pub mod Run
 pub mod Found
 pub mod Guess
 pub mod Mapped
-pub mod Rows

@@ -5,16 +5,12 @@ mod found;
 mod guess;
 mod hearer;
 mod mapped;
-mod near;
 mod port;
-pub mod rows;
 mod run;
 mod source;
 
 pub use guess::{Answer, Guess};
 pub use hearer::Hearer;
 pub use mapped::MappedSource;
-pub use near::feed_near;
 pub use port::RecoveringPort;
-pub use run::feed_run;
 pub use source::RecoveringSource;

@@ -10,8 +10,7 @@ ghost use Rattle.recovering_machines.specs.Guess.{AnswerFits, guessed_by, said_i
 
 use crate::guess::{Answer, Guess};
 use crate::hearer::Hearer;
-use crate::near::feed_near;
-use crate::run::{event_at, feed_run, hear_step};
+use crate::run::{event_at, hear_step, take_slowly};
 use crate::source::RecoveringSource;
 use source_events::{Packet, SourceKind, What};
 use source_merge::Run;
@@ -67,7 +66,7 @@ fn hear_answer<V: Hearer>(id: SourceId, at: u64, answer: Answer, out: &mut V, to
 }
 
 impl MappedSource {
-    ghost use Rattle.std.specs.Prelude.{ℕ};
+    ghost use Rattle.std.specs.Prelude.{ℕ, ◌&&◌, ◌^◌};
     ghost use Rattle.trace_values.specs.ReadingModes.{packets_hunt};
     ghost use Rattle.source_machine.specs.Units.{reads_by};
     ghost use Rattle.stretch_readings.specs.Stretches.{Stretches, before, from_fault};
@@ -105,29 +104,14 @@ impl MappedSource {
         ensures { TakesMapped V.gets V.room id (R.cells run.now) self.old self.new
             (out.old, to.old) (out.new, to.new) }
     {
-        if self.guesses {
-            self.take_near(id, run, out, to);
-        } else {
-            feed_run(&mut self.sure, id, run, out, to);
-        }
-    }
-
-    /// Takes a run with its guesses.
-    fn take_near<R: Run, V: Hearer>(&mut self, id: SourceId, run: &R, out: &mut V, to: &mut V::To)
-        requires guesses { guesses_of self.old ≡ true }
-        requires few { total_of self.old + 6 * length (R.cells run.now) ≤ COUNT_ROOM }
-        requires room { 2 * length (R.cells run.now) ≤ V.room (out.old, to.old) }
-        ensures { TakesMapped V.gets V.room id (R.cells run.now) self.old self.new
-            (out.old, to.old) (out.new, to.new) }
-    {
         let mut done = 0;
         while done < run.len() {
             done = self.take_part(id, run, done, out, to);
         }
     }
 
-    /// Takes the packets of a run that are found from this index on, and then a byte where there is one, with its
-    /// guesses. Answers the index after them.
+    /// Takes the packets of a run that are found from this index on, and then bytes of which none was. Answers the
+    /// index after them.
     fn take_part<R: Run, V: Hearer>(
         &mut self,
         id: SourceId,
@@ -136,7 +120,6 @@ impl MappedSource {
         out: &mut V,
         to: &mut V::To,
     ) -> usize
-        requires guesses { guesses_of self.old ≡ true }
         requires from { from < length (R.cells run.now) }
         requires few { total_of self.old + 6 * (length (R.cells run.now) - from) ≤ COUNT_ROOM }
         requires room { 2 * (length (R.cells run.now) - from) ≤ V.room (out.old, to.old) }
@@ -146,14 +129,20 @@ impl MappedSource {
     {
         let found = self.take_found(id, run, from, out, to);
         if found < run.len() {
-            self.take_byte(id, run, found, out, to);
-            return found + 1;
+            return self.take_others(id, run, found, out, to);
         }
         found
     }
 
-    /// Takes packets of a run that are found from this index on, where nothing is guessed. Answers the index after
-    /// them.
+    /// It says what its guess reads on.
+    #[inline]
+    fn is_guessing(&self) -> bool
+        ensures { result ≡ (guesses_of self.now && self.now.guess.is_reading) }
+    {
+        self.guesses && self.guess.is_reading()
+    }
+
+    /// Takes packets of a run that are found from this index on, where nothing is read on. Answers the index after them.
     #[inline(always)]
     fn take_found<R: Run, V: Hearer>(
         &mut self,
@@ -163,17 +152,41 @@ impl MappedSource {
         out: &mut V,
         to: &mut V::To,
     ) -> usize
-        requires guesses { guesses_of self.old ≡ true }
         requires from { from ≤ length (R.cells run.now) }
         requires room { 2 * (length (R.cells run.now) - from) ≤ V.room (out.old, to.old) }
         ensures within { (from ≤ result) × (result ≤ length (R.cells run.now)) }
         ensures takes { TakesMapped V.gets V.room id (between from result (R.cells run.now)) self.old self.new
             (out.old, to.old) (out.new, to.new) }
     {
-        if self.guess.is_reading() {
+        if self.is_guessing() {
             return from;
         }
         self.sure.take_packets(id, run, from, out, to)
+    }
+
+    /// Takes bytes of a run from this index on, of which no packet was found: with its guesses one. Answers the index
+    /// after them.
+    fn take_others<R: Run, V: Hearer>(
+        &mut self,
+        id: SourceId,
+        run: &R,
+        from: usize,
+        out: &mut V,
+        to: &mut V::To,
+    ) -> usize
+        requires from { from < length (R.cells run.now) }
+        requires fits { from + 1 < 2 ^ 64 }
+        requires few { total_of self.old + 6 * (length (R.cells run.now) - from) ≤ COUNT_ROOM }
+        requires room { 2 * (length (R.cells run.now) - from) ≤ V.room (out.old, to.old) }
+        ensures within { (from < result) × (result ≤ length (R.cells run.now)) }
+        ensures takes { TakesMapped V.gets V.room id (between from result (R.cells run.now)) self.old self.new
+            (out.old, to.old) (out.new, to.new) }
+    {
+        if self.guesses {
+            self.take_byte(id, run, from, out, to);
+            return from + 1;
+        }
+        take_slowly(&mut self.sure, id, run, from, out, to)
     }
 
     /// Takes the byte of a run at this index.
@@ -193,7 +206,8 @@ impl MappedSource {
             (out.old, to.old) (out.new, to.new) }
     {
         let cell = run.cell(index);
-        let answer = feed_near(&mut self.sure, &mut self.guess, cell.at, cell.byte);
+        let step = self.sure.feed(cell.at, cell.byte);
+        let answer = self.guess.follow(cell.at, cell.byte, step);
         hear_answer(id, cell.at, answer, out, to);
     }
 

@@ -94,7 +94,7 @@ fn hear_packet<V: Hearer>(
 /// Takes bytes of a run of this source from this index on, of which no packet was found: those up to the one in which a
 /// packet ends, or one byte where nothing is known of them. Gives their events, and answers the index after them.
 #[inline(never)]
-fn take_slowly<R: Run, V: Hearer>(
+pub(crate) fn take_slowly<R: Run, V: Hearer>(
     source: &mut RecoveringSource,
     id: SourceId,
     run: &R,
@@ -119,46 +119,4 @@ fn take_slowly<R: Run, V: Hearer>(
     let step = source.feed(cell.at, cell.byte);
     hear_step(id, cell.at, step, out, to);
     from + 1
-}
-
-/// Takes the packets of a run that are found from this index on, and then bytes of which none was. Gives their events,
-/// and answers the index after them.
-fn take_part<R: Run, V: Hearer>(
-    source: &mut RecoveringSource,
-    id: SourceId,
-    run: &R,
-    from: usize,
-    out: &mut V,
-    to: &mut V::To,
-) -> usize
-    requires from { from < length (R.cells run.now) }
-    requires few { total_of source.old + 4 * (length (R.cells run.now) - from) ≤ COUNT_ROOM }
-    requires room { 2 * (length (R.cells run.now) - from) ≤ V.room (out.old, to.old) }
-    ensures within { (from < result) × (result ≤ length (R.cells run.now)) }
-    ensures takes { TakesRun V.gets V.room id (between from result (R.cells run.now)) source.old source.new
-        (out.old, to.old) (out.new, to.new) }
-{
-    let found = source.take_packets(id, run, from, out, to);
-    if found < run.len() {
-        return take_slowly(source, id, run, found, out, to);
-    }
-    found
-}
-
-/// Takes a run of this source, and gives its events: at most two for each byte.
-pub fn feed_run<R: Run, V: Hearer>(
-    source: &mut RecoveringSource,
-    id: SourceId,
-    run: &R,
-    out: &mut V,
-    to: &mut V::To,
-)
-    requires few { total_of source.old + 4 * length (R.cells run.now) ≤ COUNT_ROOM }
-    requires room { 2 * length (R.cells run.now) ≤ V.room (out.old, to.old) }
-    ensures { TakesRun V.gets V.room id (R.cells run.now) source.old source.new (out.old, to.old) (out.new, to.new) }
-{
-    let mut done = 0;
-    while done < run.len() {
-        done = take_part(source, id, run, done, out, to);
-    }
 }

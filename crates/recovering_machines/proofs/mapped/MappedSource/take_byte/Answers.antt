@@ -4,6 +4,8 @@ use Rattle.source_merge.proofs.Packets.{last_parts}
 use Rattle.recovering_machines.specs.Mapped.{TakesMapped}
 use Rattle.recovering_machines.specs.Run.{between}
 use Rattle.recovering_machines.specs.declared.mapped.MappedSource.{MappedSource}
+use Rattle.recovering_machines.specs.Source.{with_byte}
+use Rattle.recovering_machines.proofs.Guessing.{same_source}
 use Rattle.recovering_machines.proofs.Mapping.{mapped_one}
 use Rattle.recovering_machines.proofs.Runs.{between_as}
 use Rattle.recovering_machines.proofs.mapped.MappedSource.take_byte.Goals as goal
@@ -14,8 +16,10 @@ returns g c =
     let index = c.args.index in
     let cell = c.cell-cell.result in
     let old = c.args.self.now in
-    let fed = c.feed_near-answer in
-    let new : MappedSource = record { sure = fed.new.source; guess = fed.new.guess; guesses = old.guesses } in
+    let fed = c.feed-step.ensures in
+    let sure = c.feed-step.new.self in
+    let guess = c.follow-answer.new.self in
+    let new : MappedSource = record { sure = sure; guess = guess; guesses = old.guesses } in
     let within : index + 1 ≤ length cells = (let r = c.requires.index in omega (arith, r)) in
     let is : cell ≡ get_or cells (index + 1 - 1) cell =
     c.cell-cell.ensures ∙ ap (λ (n : ℕ). get_or cells n cell) (let e : index ≡ index + 1 - 1 = omega arith in e) in
@@ -24,7 +28,10 @@ returns g c =
     subst (λ (l : List Cell). TakesMapped g.V.Hearer.gets g.V.Hearer.room c.args.id l old new
     (c.args.out.now, c.args.to.now) (c.hear_answer.new.out, c.hear_answer.new.to)) (sym parts)
     (mapped_one g.V.Hearer.gets g.V.Hearer.room g.met.V.Hearer.gets_none g.met.V.Hearer.gets_more c.args.id old new
-    (c.args.out.now, c.args.to.now) (c.hear_answer.new.out, c.hear_answer.new.to) cell fed.result c.requires.guesses
-    refl fed.ensures.kind fed.ensures.reads fed.ensures.list fed.ensures.follows fed.ensures.said
-    (let s = fed.ensures.few in let n = fed.ensures.guess_few in omega (arith, s, n)) c.hear_answer.ensures.received
+    (c.args.out.now, c.args.to.now) (c.hear_answer.new.out, c.hear_answer.new.to) cell c.follow-answer.result
+    c.requires.guesses refl fed.kind fed.reads fed.list
+    (λ r start l k f. same_source guess old.sure sure (cell.at + 1) (with_byte old.sure r cell.at cell.byte) fed.kind
+    fed.reads (c.follow-answer.ensures.follows old.sure r start l k (fed.step r k) f))
+    (λ r start l k f. c.follow-answer.ensures.said old.sure r start l k (fed.step r k) f)
+    (let s = fed.few in let n = c.follow-answer.ensures.few in omega (arith, s, n)) c.hear_answer.ensures.received
     c.hear_answer.ensures.room)

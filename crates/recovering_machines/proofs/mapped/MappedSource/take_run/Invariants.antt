@@ -1,7 +1,7 @@
 use Rattle.std.proofs.Common.{◌-◌, ◌≤◌, length}
 use Rattle.recovering_machines.specs.Mapped.{TakesMapped}
 use Rattle.recovering_machines.specs.Run.{between}
-use Rattle.recovering_machines.proofs.mapped.MappedSource.take_near.Given as goal
+use Rattle.recovering_machines.proofs.mapped.MappedSource.take_run.Given as goal
 
 -- the cells so far are taken
 abbrev pub invariant-loop-done : goal.invariant-loop-done
