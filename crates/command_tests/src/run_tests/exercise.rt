@@ -39,6 +39,7 @@ pub(super) fn exercise_capture(
 ) -> Result<Vec<u8>, Fail> {
     let mut room = vec![in alloc; 0; 70_000]?;
     let mut sink = MemorySink::new(&mut room, &[], &[]);
+    assert!(rt; items <= 12000);
     let length = write_exercise(items, &mut sink);
     let mut capture = Vec::new(alloc);
     capture.extend_from_slice(sink.held())?;
