@@ -469,7 +469,8 @@ fn frames_after_each_front_are_as_in_the_whole(rt: HostRuntime) -> Result<(), Fa
 }
 
 #[test]
-fn so_are_those_of_sixteen_sources_with_half_synchronisations(rt: HostRuntime) -> Result<(), Fail> {
+fn so_are_those_of_sixteen_sources(rt: HostRuntime) -> Result<(), Fail> {
+    check_frames(rt.alloc(), &rt, &SIXTEEN, (1, 0))?;
     check_frames(rt.alloc(), &rt, &SIXTEEN, (4, 1))
 }
 
