@@ -74,11 +74,11 @@ impl Answer {
     pub fn call(&mut self, alloc: Global, words: &[String], bytes: &[u8], calls: Calls) {
         let (read, failing_read) = ([calls.read], [calls.failing_read]);
         let (write, failing_write) = ([calls.write], [calls.failing_write]);
-        let text = &mut self.text[..calls.room.min(ROOM)];
-        let note = &mut self.note[..calls.note_room.min(NOTE_ROOM)];
+        let room = calls.room.min(self.text.len());
+        let note_room = calls.note_room.min(self.note.len());
         let mut input = MemorySource::new(bytes, &read, &failing_read);
-        let mut output = MemorySink::new(text, &write, &failing_write);
-        let mut notes = MemorySink::new(note, &write, &[]);
+        let mut output = MemorySink::new(&mut self.text[..room], &write, &failing_write);
+        let mut notes = MemorySink::new(&mut self.note[..note_room], &write, &[]);
         self.status = run(alloc, words, &mut input, &mut output, &mut notes).number();
         self.text_length = output.held().len();
         self.note_length = notes.held().len();
