@@ -1,5 +1,5 @@
 -- A decoder of nibbles that begin with a packet, with one of them.
-use Rattle.std.proofs.Common.{◌≡◌, ℕ, zero, suc, ◌/◌, ◌<◌, List, [], ◌∷◌, refl, sym, ◌∙◌, ap, subst}
+use Rattle.std.proofs.Common.{◌≡◌, ℕ, zero, suc, ◌/◌, ◌<◌, [], ◌∷◌, refl, sym, subst}
 use Rattle.std.proofs.Common.{Bool, true, false, None}
 use Rattle.trace_values.specs.declared.mode.Mode.{Mode}
 use Rattle.trace_values.specs.declared.mode.Mode.TheVariants.{Aligned, Hunting, Locked as HasLocked}

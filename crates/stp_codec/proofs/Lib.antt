@@ -17,3 +17,4 @@ pub mod PartPieces
 pub mod PartsPieces
 pub mod Pairs
 pub mod Afterwards
+pub mod Skipping

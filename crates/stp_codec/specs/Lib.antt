@@ -7,3 +7,4 @@ pub mod Parts
 pub mod Cuts
 pub mod FallingLaws
 pub mod Nibbles
+pub mod Hunting

@@ -6,6 +6,7 @@ mod cut;
 mod decoder;
 mod find;
 mod flat;
+mod hunt;
 pub mod laws;
 mod nibbles;
 mod numbers;

@@ -17,7 +17,7 @@ use stp_grammar::partial::Partial;
 use trace_values::{Fault, Mode, Next, Pattern, Step};
 
 /// The shortest ASYNC: 21 nibbles F, and then a nibble 0.
-const ASYNC: Pattern = Pattern {
+pub(crate) const ASYNC: Pattern = Pattern {
     unit: 15,
     most: 21,
     last: 0,
