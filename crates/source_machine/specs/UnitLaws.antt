@@ -1,11 +1,10 @@
 -- The laws of the machine of a source over its units.
-use Rattle.std.proofs.Common.{◌≡◌, ℕ, ◌+◌, ◌≤◌, List, [], ◌∷◌, ◌++◌, length, refl, sym, ◌∙◌, ap, subst, arith}
-use Rattle.std.proofs.Common.{append_assoc, append-nil, Bool, true, false, None}
-use Rattle.std.specs.Prelude.{is_none}
-use Rattle.source_machine.specs.Names.{Placed, byte_at, low_of, high_of, Stream, Grows, Settled, Holds, Step, Quiet}
-use Rattle.source_machine.specs.Names.{Skipping, Item, Locked, Fault as Faulty, by_unit, ItmPacket, Sync, Header, rule}
-use Rattle.source_machine.specs.Names.{count_of, pattern, packets_in, ItmDecoder, Order, Async, Start, attribute}
-use Rattle.source_machine.specs.Names.{items_at, StpDecoder, Packet, Itm as ItmPacketOf, Stp as StpPacketOf, stream_as}
+use Rattle.std.proofs.Common.{◌≡◌, ◌+◌, ◌≤◌, List, [], ◌∷◌, ◌++◌, length, refl, sym, ◌∙◌, ap, arith}
+use Rattle.std.proofs.Common.{true, false, None}
+use Rattle.source_machine.specs.Names.{Placed}
+use Rattle.source_machine.specs.Names.{by_unit, Sync, Header, rule}
+use Rattle.source_machine.specs.Names.{count_of, pattern, packets_in, ItmDecoder, Async, Start, attribute}
+use Rattle.source_machine.specs.Names.{items_at, StpDecoder, Itm as ItmPacketOf, Stp as StpPacketOf}
 use Rattle.source_machine.specs.Names.{given_as}
 use Rattle.trace_values.proofs.Modes as modes
 use Rattle.trace_values.proofs.Falls as falling
@@ -16,7 +15,7 @@ use Rattle.itm_grammar.proofs.Counting as counting
 use Rattle.itm_codec.specs.Decoder as itm
 use Rattle.stp_grammar.specs.Rule.{rule as stp_rule, count_of as stp_count}
 use Rattle.stp_grammar.proofs.Counting as stp_counting
-use Rattle.stp_codec.specs.Reading.{pattern as stp_pattern, packets_in as stp_packets_in}
+use Rattle.stp_codec.specs.Reading.{pattern as stp_pattern}
 use Rattle.stp_codec.specs.Decoder as stp
 use Rattle.source_machine.specs.Machine.{is_live, has_locked, held_of, skipped_by}
 use Rattle.source_machine.specs.Units.{reads_on, reading_on, StandsOn, Falls}

@@ -1,5 +1,5 @@
 -- The machine of a source over its units, of which the first may be in the middle of a byte.
-use Rattle.std.specs.Prelude.{◌≡◌, ℕ, ◌+◌, List, [], ◌∷◌, ◌++◌, Bool, false, None, is_none}
+use Rattle.std.specs.Prelude.{◌≡◌, ℕ, ◌+◌, List, [], ◌∷◌, ◌++◌, Bool, None}
 use Rattle.source_machine.specs.Names.{Placed, byte_at, low_of, high_of, Stream, Grows, Step, packets_in, Order}
 use Rattle.source_machine.specs.Names.{items_at, nibbles_after, nibbles_from, taken_by, before_by, Packet}
 use Rattle.source_machine.specs.Names.{Itm as ItmPacket, Stp as StpPacket, SourceKind, stream_as}

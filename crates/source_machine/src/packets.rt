@@ -261,6 +261,18 @@ impl Finds for StpDecoder {
 
     #[inline(always)]
     fn take(&mut self, bytes: &[u8]) -> Option<TakenAtOnce<Packet>> {
+        if !self.is_locked() {
+            let bytes = self.skip_part(bytes);
+            return if bytes > 0 {
+                Some(TakenAtOnce {
+                    bytes,
+                    half: 1,
+                    item: None,
+                })
+            } else {
+                None
+            };
+        }
         let taken = self.take_part(bytes)?;
         Some(TakenAtOnce {
             bytes: taken.bytes,

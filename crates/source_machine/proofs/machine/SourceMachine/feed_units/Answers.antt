@@ -1,4 +1,4 @@
-use Rattle.std.proofs.Common.{ap, subst, sym, ◌∙◌, List, [], ◌∷◌, ◌++◌}
+use Rattle.std.proofs.Common.{ap, subst, sym, ◌∙◌, List}
 use Rattle.source_machine.specs.Names.{Placed, Stream, ItmPacket}
 use Rattle.source_machine.specs.Names.{Itm, stream_as}
 use Rattle.source_machine.specs.declared.machine.SourceMachine.{SourceMachine}
