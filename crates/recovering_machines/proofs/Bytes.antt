@@ -1,7 +1,8 @@
 -- One more byte, and a cut.
 use Rattle.std.proofs.Common.{◌≡◌, ℕ, zero, suc, ◌+◌, ◌≤◌, List, [], ◌∷◌, ◌++◌, length, refl, sym, ◌∙◌, ap, arith}
-use Rattle.std.proofs.Common.{subst, append_assoc, append-nil, Option, None, Bool, true, false}
-use Rattle.std.specs.Prelude.{map}
+use Rattle.std.proofs.Common.{subst, append_assoc, append-nil, Option, None, Bool, true, false, ◌<◌}
+use Rattle.std.proofs.Common.{inl, inr}
+use Rattle.std.specs.Prelude.{map, is_none, ◌⊎◌}
 use Rattle.std.specs.List.{sum_by}
 use Rattle.std.proofs.lemmas.List.Sums.{sum_by_push}
 use Rattle.trace_values.specs.declared.fault.Fault.{Fault}
@@ -20,13 +21,25 @@ use Rattle.source_machine.specs.Units.{kind_of, reads_on, reading_on, StandsOn, 
 use Rattle.source_machine.specs.Units.{before_on, TakesUnits}
 use Rattle.source_machine.specs.UnitLaws.{falls, shows_units, locks_units, quiet}
 use Rattle.source_machine.specs.declared.machine.SourceMachine.{SourceMachine}
+use Rattle.source_machine.specs.declared.machine.SourceMachine.TheVariants.{Itm as ItmSource, Stp as StpSource}
+use Rattle.trace_values.specs.Walk.{by_unit}
+use Rattle.trace_values.proofs.Falls as falling
+use Rattle.stp_grammar.specs.declared.packet.StpPacket.TheVariants.{Async}
+use Rattle.stp_grammar.specs.declared.partial.Partial.TheVariants.{Start}
+use Rattle.stp_grammar.specs.Rule.{rule as stp_rule}
+use Rattle.stp_codec.specs.FallingLaws as stp_falling
+use Rattle.stp_codec.specs.Reading.{pattern as stp_pattern}
+use Rattle.stp_codec.specs.declared.decoder.StpDecoder.{StpDecoder}
 use Rattle.stretch_readings.specs.Stretches.{One, Stretch, Stretches, fed_from, heard_of, from_fault, lost_in, parted}
 use Rattle.stretch_readings.specs.Stretches.{tail_by}
 use Rattle.stretch_readings.specs.Steps.{said_by, raised}
 use Rattle.stretch_readings.proofs.Feeding.{longer, fallen, one_goes, one_falls, two_go, second_falls, first_falls}
 use Rattle.stretch_readings.proofs.Feeding.{given_longer, given_fallen, no_fault_by}
 use Rattle.recovering_machines.specs.Source.{Keeps}
-use Rattle.recovering_machines.specs.Units.{AreWhole}
+use Rattle.recovering_machines.specs.Units.{ArePassed, AreWhole, BeginsHunt, after_passed}
+use Rattle.recovering_machines.specs.declared.source.FirstByte.{FirstByte}
+use Rattle.recovering_machines.proofs.Passed.{fault_lowered, grows_lowered, lowered, none_passed, on_lowered}
+use Rattle.recovering_machines.proofs.Passed.{raised_lowered}
 use Rattle.recovering_machines.proofs.Wholes.{step_whole}
 
 -- the fault of a step that is one
@@ -77,7 +90,59 @@ from_few ItmKind half at byte = omega arith
 from_few StpKind zero at byte = omega arith
 from_few StpKind (suc half) at byte = omega arith
 
-module _ (m e : SourceMachine) (past count : ℕ) (r : Stretches) (k : Keeps m past count r)
+-- what its machine shows of the last stretch's reading
+module _ (m : SourceMachine) (past count : ℕ) (front : List Placed) (r : Stretches) (k : Keeps m past count front r)
+    (live : is_live m ≡ true) where
+  read_kept : reading_on m (front ++ r.now.units) ≡ after_passed (length front) (reads_on m r.now.hunts r.now.units)
+  read_kept = ap (λ (f : List Placed → Stream Packet). f (front ++ r.now.units)) k.reading ∙ k.passed r.now.units
+
+  pub none_kept : (reads_on m r.now.hunts r.now.units).fault ≡ None
+  none_kept = sym (ap (λ (x : Stream Packet). x.fault) read_kept)
+      ∙ (shows_units m (front ++ r.now.units) k.stands live).0
+
+  pub shown_kept : (skipped_by m ≡ length front + (reads_on m r.now.hunts r.now.units).skipped)
+      × (held_of m ≡ (reads_on m r.now.hunts r.now.units).held)
+  shown_kept =
+      let s = shows_units m (front ++ r.now.units) k.stands live in (
+        s.1 ∙ ap (λ (x : Stream Packet). x.skipped) read_kept,
+        s.2 ∙ ap (λ (x : Stream Packet). x.held) read_kept,
+      )
+
+-- A fault at a byte's high nibble has the low one before it in its packet, since no packet fails at its first nibble.
+stp_held : (d : StpDecoder) (hunts : Bool) (n : List Placed) (b c : Placed) → c.unit < 16 →
+    (reads_on (StpSource d) hunts (n ++ b ∷ [])).fault ≡ None →
+    is_none (reads_on (StpSource d) hunts (n ++ (b ∷ (c ∷ [])))).fault ≡ false →
+    2 ≤ (reads_on (StpSource d) hunts (n ++ (b ∷ (c ∷ [])))).held
+stp_held d hunts n b c nibble e f =
+    let all = sym (append_assoc n (b ∷ []) (c ∷ [])) in
+    let f = ap (λ (l : List Placed). is_none (reads_on (StpSource d) hunts l).fault) (sym all) ∙ f in
+    let one = falling.goes stp_pattern Async (by_unit (stp_rule d.order)) Start (λ (z : Placed). z.unit < 16)
+    (stp_falling.begins d.order) hunts n b c nibble e f in
+    let two = falling.holds stp_pattern Async (by_unit (stp_rule d.order)) Start hunts (n ++ b ∷ []) c f in
+    subst (λ (l : List Placed). 2 ≤ (reads_on (StpSource d) hunts l).held) (sym all)
+    (let x = one.held in let y = two.held in omega (arith, x, y))
+
+held_by : (m : SourceMachine) (hunts : Bool) (n : List Placed) (x : Fault) (at byte : ℕ) (first : FirstByte) →
+    BeginsHunt (kind_of m) x.half byte first →
+    (reads_on m hunts (n ++ before_on (kind_of m) at byte (Faulty x))).fault ≡ None →
+    (reads_on m hunts (n ++ taken_on (kind_of m) at byte (Faulty x))).fault ≡ fault_at at x → (
+      (first.passed ≡ 0)
+      ⊎ (first.passed + 1 ≤ (reads_on m hunts (n ++ taken_on (kind_of m) at byte (Faulty x))).held)
+    )
+held_by (ItmSource d) hunts n x at byte first b e f = inl b.1
+held_by (StpSource d) hunts n x at byte first b e f = by x.half b e (ap is_none f) where
+  by : (half : ℕ) → BeginsHunt StpKind half byte first →
+      (reads_on (StpSource d) hunts (n ++ nibbles_before half at byte)).fault ≡ None →
+      is_none (reads_on (StpSource d) hunts (n ++ nibbles_to half at byte)).fault ≡ false → (
+        (first.passed ≡ 0)
+        ⊎ (first.passed + 1 ≤ (reads_on (StpSource d) hunts (n ++ nibbles_to half at byte)).held)
+      )
+  by zero b e f = inl b.1
+  by (suc half) b e f =
+      inr (let i = b.1 in let h = stp_held d hunts n (low_of at byte) (high_of at byte) (omega arith) e f in
+      omega (arith, i, h))
+
+module _ (m e : SourceMachine) (past count : ℕ) (front : List Placed) (r : Stretches) (k : Keeps m past count front r)
     (live : is_live m ≡ true) (at byte : ℕ)
     (same_reads : reads_on e ≡ reads_on m) (same_reading : reading_on e ≡ reading_on m) where
   abbrev kind : SourceKind
@@ -89,52 +154,86 @@ module _ (m e : SourceMachine) (past count : ℕ) (r : Stretches) (k : Keeps m p
   abbrev units : List Placed
   units = r.now.units
 
-  pub none : (reads r.now.hunts units).fault ≡ None
-  none = ap (λ (f : List Placed → Stream Packet). (f units).fault) (sym k.reading)
-      ∙ (shows_units m units k.stands live).0
+  abbrev read_now : List Placed → Stream Packet
+  read_now = reads r.now.hunts
 
-  module _ (s : Step Packet) (t : TakesUnits m e units at byte s) where
+  -- its machine has read them after those that are passed over
+  read_units : reading_on m (front ++ units) ≡ after_passed (length front) (read_now units)
+  read_units = ap (λ (f : List Placed → Stream Packet). f (front ++ units)) k.reading ∙ k.passed units
+
+  read_more : (w : List Placed) →
+      reading_on m ((front ++ units) ++ w) ≡ after_passed (length front) (read_now (units ++ w))
+  read_more w =
+      ap (reading_on m) (append_assoc front units w)
+      ∙ ap (λ (f : List Placed → Stream Packet). f (front ++ (units ++ w))) k.reading ∙ k.passed (units ++ w)
+
+  pub none : (reads r.now.hunts units).fault ≡ None
+  none = none_kept m past count front r k live
+
+  module _ (s : Step Packet) (t : TakesUnits m e (front ++ units) at byte s) where
     abbrev taken : List Placed
     taken = taken_on kind at byte s
 
-    pub grows : Grows (reads r.now.hunts units) (reads r.now.hunts (units ++ taken)) at s
-    grows = subst (λ (f : List Placed → Stream Packet). Grows (f units) (f (units ++ taken)) at s) k.reading t.grows
+    -- the step of the stretch's own reading
+    abbrev own : Step Packet
+    own = lowered (length front) s
+
+    own_on : goes_on s ≡ true → goes_on own ≡ true
+    own_on on = on_lowered (length front) s ∙ on
+
+    grew : Grows (after_passed (length front) (read_now units)) (after_passed (length front) (read_now (units ++ taken)))
+        at s
+    grew = subst (λ (x : Stream Packet). Grows (after_passed (length front) (read_now units)) x at s) (read_more taken)
+        (subst (λ (x : Stream Packet). Grows x (reading_on m ((front ++ units) ++ taken)) at s) read_units t.grows)
+
+    pub grows : Grows (reads r.now.hunts units) (reads r.now.hunts (units ++ taken)) at own
+    grows = grows_lowered (length front) at (read_now units) (read_now (units ++ taken)) s grew
 
     pub sound : (reads r.now.hunts (units ++ before_on kind at byte s)).fault ≡ None
-    sound = ap (λ (f : List Placed → Stream Packet). (f (units ++ before_on kind at byte s)).fault) (sym k.reading)
-        ∙ t.sound
+    sound = sym (ap (λ (x : Stream Packet). x.fault) (read_more (before_on kind at byte s))) ∙ t.sound
 
-    pub goes : goes_on s ≡ true → fed_from reads from_fault r (map One (units_at kind at byte)) ≡ longer reads r taken
-    goes on = goes_by reads r at byte kind s on sound grows.fault
+    goes : goes_on s ≡ true → fed_from reads from_fault r (map One (units_at kind at byte)) ≡ longer reads r taken
+    goes on = goes_by reads r at byte kind s on sound (grows.fault ∙ fault_lowered (length front) at s)
 
     pub hunts_goes : goes_on s ≡ true →
         (fed_from reads from_fault r (map One (units_at kind at byte))).now.hunts ≡ r.now.hunts
     hunts_goes on = ap (λ x. x.now.hunts) (goes on)
 
-    pub whole_goes : goes_on s ≡ true → (its : SourceKind) → its ≡ kind → AreWhole kind units →
-        AreWhole its (fed_from reads from_fault r (map One (units_at kind at byte))).now.units
-    whole_goes on its same w = subst (λ x. AreWhole its x.now.units) (sym (goes on))
-        (subst (λ z. AreWhole z (units ++ taken)) (sym same) (step_whole kind units at byte s on w))
+    pub whole_goes : goes_on s ≡ true → (its : SourceKind) → its ≡ kind → AreWhole kind (front ++ units) →
+        AreWhole its (front ++ (fed_from reads from_fault r (map One (units_at kind at byte))).now.units)
+    whole_goes on its same w = subst (λ x. AreWhole its (front ++ x.now.units)) (sym (goes on))
+        (subst (λ z. AreWhole z (front ++ (units ++ taken))) (sym same)
+        (subst (AreWhole kind) (append_assoc front units taken) (step_whole kind (front ++ units) at byte s on w)))
 
     pub keeps_goes : goes_on s ≡ true →
-        Keeps e past count (fed_from reads from_fault r (map One (units_at kind at byte)))
-    keeps_goes on = subst (λ x. Keeps e past count x) (sym (goes on)) (record {
-      stands = t.list;
+        Keeps e past count front (fed_from reads from_fault r (map One (units_at kind at byte)))
+    keeps_goes on = subst (λ x. Keeps e past count front x) (sym (goes on)) (record {
+      stands = subst (StandsOn e) (append_assoc front units taken) t.list;
       reading = same_reading ∙ k.reading ∙ ap (λ (f : Bool → List Placed → Stream Packet). f r.now.hunts)
           (sym same_reads);
+      passed = subst (λ (f : Bool → List Placed → Stream Packet). ArePassed (f r.now.hunts) front) (sym same_reads)
+          k.passed;
       past_is = k.past_is ∙ ap (λ (f : Bool → List Placed → Stream Packet). sum_by (lost_in f from_fault) r.past)
           (sym same_reads);
       count_is = k.count_is;
     })
 
+    -- the answer is that of the stretch's own reading
+    pub answer : raised count s ≡ raised r.now.count own
+    answer =
+        raised_lowered (length front) count at (after_passed (length front) (read_now units)) (read_now (units ++ taken)) s
+        grew.hunt
+        ∙ ap (λ c. raised c own) k.count_is
+
     pub given_goes : goes_on s ≡ true →
         (heard_of reads from_fault (fed_from reads from_fault r (map One (units_at kind at byte)))).given
         ≡ (heard_of reads from_fault r).given ++ said_by at (raised count s)
     given_goes on =
-        ap (λ x. (heard_of reads from_fault x).given) (goes on) ∙ given_longer reads r taken at s none on grows
-        ∙ ap (λ c. (heard_of reads from_fault r).given ++ said_by at (raised c s)) (sym k.count_is)
+        ap (λ x. (heard_of reads from_fault x).given) (goes on)
+        ∙ given_longer reads r taken at own none (own_on on) grows
+        ∙ ap (λ x. (heard_of reads from_fault r).given ++ said_by at x) (sym answer)
 
-  module _ (x : Fault) (t : TakesUnits m e units at byte (Faulty x)) (dead : is_live e ≡ false) where
+  module _ (x : Fault) (t : TakesUnits m e (front ++ units) at byte (Faulty x)) (dead : is_live e ≡ false) where
     abbrev fault_taken : List Placed
     fault_taken = taken_on kind at byte (Faulty x)
 
@@ -148,23 +247,31 @@ module _ (m e : SourceMachine) (past count : ℕ) (r : Stretches) (k : Keeps m p
     pub hunts_falls : (fed_from reads from_fault r (map One (units_at kind at byte))).now.hunts ≡ true
     hunts_falls = ap (λ y. y.now.hunts) falls_to
 
-    pub whole_falls : (its : SourceKind) → AreWhole its (units_from its x.half at byte) → its ≡ kind →
-        AreWhole its (fed_from reads from_fault r (map One (units_at kind at byte))).now.units
-    whole_falls its w same = subst (λ y. AreWhole its y.now.units) (sym falls_to)
-        (subst (λ z. AreWhole its (units_from z x.half at byte)) same w)
+    pub whole_falls : (its : SourceKind) (its_front : List Placed) → AreWhole its (its_front ++ next) →
+        AreWhole its (its_front ++ (fed_from reads from_fault r (map One (units_at kind at byte))).now.units)
+    whole_falls its its_front w = subst (λ y. AreWhole its (its_front ++ y.now.units)) (sym falls_to) w
 
-    shown : (skipped_by e ≡ (reads r.now.hunts (units ++ fault_taken)).skipped)
+    shown : (skipped_by e ≡ length front + (reads r.now.hunts (units ++ fault_taken)).skipped)
         × (held_of e + 1 ≡ (reads r.now.hunts (units ++ fault_taken)).held)
     shown =
-        let last = last_taken kind units at byte x in
-        let before = units ++ before_on kind at byte (Faulty x) in
+        let last = last_taken kind (front ++ units) at byte x in
+        let before = (front ++ units) ++ before_on kind at byte (Faulty x) in
         let f = falls e before last.0 (subst (StandsOn e) last.1 t.list) dead
         (ap (λ (f : List Placed → Stream Packet). (f before).fault) same_reading ∙ t.sound) in
-        let same : reading_on e ≡ reads r.now.hunts = same_reading ∙ k.reading in
-        let here : reading_on e (before ++ last.0 ∷ []) ≡ reads r.now.hunts (units ++ fault_taken) =
-        ap (λ (f : List Placed → Stream Packet). f (before ++ last.0 ∷ [])) same
-        ∙ ap (reads r.now.hunts) (sym last.1) in
+        let here : reading_on e (before ++ last.0 ∷ [])
+        ≡ after_passed (length front) (reads r.now.hunts (units ++ fault_taken)) =
+        ap (λ (f : List Placed → Stream Packet). f (before ++ last.0 ∷ [])) same_reading
+        ∙ ap (reading_on m) (sym last.1) ∙ read_more fault_taken in
         (f.skipped ∙ ap (λ (z : Stream Packet). z.skipped) here, f.held ∙ ap (λ (z : Stream Packet). z.held) here)
+
+    -- those of its packet before the hunt's first unit are among those that it holds
+    pub held_falls : (first : FirstByte) → BeginsHunt kind x.half byte first → first.passed ≤ held_of e
+    held_falls first b =
+        by (held_by m r.now.hunts units x at byte first b (sound (Faulty x) t) (grows (Faulty x) t).fault) where
+          by : (first.passed ≡ 0) ⊎ (first.passed + 1 ≤ (reads r.now.hunts (units ++ fault_taken)).held) →
+              first.passed ≤ held_of e
+          by (inl h) = (let i = h in omega (arith, i))
+          by (inr h) = (let i = h in let s = shown.1 in omega (arith, i, s))
 
     pub given_falls : (heard_of reads from_fault
         (fed_from reads from_fault r (map One (units_at kind at byte)))).given
@@ -174,13 +281,15 @@ module _ (m e : SourceMachine) (past count : ℕ) (r : Stretches) (k : Keeps m p
         ap (λ y. (heard_of reads from_fault y).given) falls_to
         ∙ given_fallen reads r fault_taken next at x none (grows (Faulty x) t) q.0 q.1
 
-    pub keeps_falls : (z : SourceMachine) (skipped held : ℕ) → skipped ≡ skipped_by e → held ≡ held_of e →
-        reads_on z ≡ reads_on m → reading_on z ≡ reads_on z true → StandsOn z next →
-        Keeps z (past + (count + skipped)) held (fed_from reads from_fault r (map One (units_at kind at byte)))
-    keeps_falls z skipped held s h same mode list =
-        subst (λ y. Keeps z (past + (count + skipped)) held y) (sym falls_to) (record {
+    pub keeps_falls : (z : SourceMachine) (skipped now : ℕ) (its_front : List Placed) → skipped ≡ skipped_by e →
+        now + length its_front ≡ held_of e → reads_on z ≡ reads_on m → reading_on z ≡ reads_on z true →
+        ArePassed (reads_on m true) its_front → StandsOn z (its_front ++ next) →
+        Keeps z (past + (count + skipped)) now its_front (fed_from reads from_fault r (map One (units_at kind at byte)))
+    keeps_falls z skipped now its_front s h same mode passed list =
+        subst (λ y. Keeps z (past + (count + skipped)) now its_front y) (sym falls_to) (record {
           stands = list;
           reading = mode;
+          passed = subst (λ (f : Bool → List Placed → Stream Packet). ArePassed (f true) its_front) (sym same) passed;
           past_is =
               (let a = k.past_is in let b = k.count_is in let c = shown.0 in let d = s in
               let fault : (reads r.now.hunts (units ++ fault_taken)).fault ≡ fault_at at x =
@@ -199,22 +308,19 @@ module _ (m e : SourceMachine) (past count : ℕ) (r : Stretches) (k : Keeps m p
         })
 
 -- a cut
-pub keeps_parted : (m z : SourceMachine) (past count : ℕ) (r : Stretches) (skipped held : ℕ) → Keeps m past count r →
-    is_live m ≡ true → skipped ≡ skipped_by m → held ≡ held_of m →
+pub keeps_parted : (m z : SourceMachine) (past count : ℕ) (front : List Placed) (r : Stretches) (skipped held : ℕ) →
+    Keeps m past count front r → is_live m ≡ true → skipped ≡ skipped_by m → held ≡ held_of m →
     reads_on z ≡ reads_on m → reading_on z ≡ reads_on z true → StandsOn z [] →
-    Keeps z (past + (count + skipped + held)) 0 (parted (reads_on m) from_fault r)
-keeps_parted m z past count r skipped held k live s h same mode list = record {
+    Keeps z (past + (count + skipped + held)) 0 [] (parted (reads_on m) from_fault r)
+keeps_parted m z past count front r skipped held k live s h same mode list = record {
   stands = list;
   reading = mode;
+  passed = none_passed (reads_on z true);
   past_is =
-      (let shows = shows_units m r.now.units k.stands live in
+      (let shown = shown_kept m past count front r k live in
       let a = k.past_is in let b = k.count_is in let d = s in let f = h in
-      let c : skipped_by m ≡ (reads_on m r.now.hunts r.now.units).skipped =
-      shows.1 ∙ ap (λ (f : List Placed → Stream Packet). (f r.now.units).skipped) k.reading in
-      let g : held_of m ≡ (reads_on m r.now.hunts r.now.units).held =
-      shows.2 ∙ ap (λ (f : List Placed → Stream Packet). (f r.now.units).held) k.reading in
-      let none : (reads_on m r.now.hunts r.now.units).fault ≡ None =
-      ap (λ (f : List Placed → Stream Packet). (f r.now.units).fault) (sym k.reading) ∙ shows.0 in
+      let c = shown.0 in let g = shown.1 in
+      let none = none_kept m past count front r k live in
       let lost : lost_in (reads_on m) from_fault r.now
       ≡ (r.now.count + (reads_on m r.now.hunts r.now.units).skipped) + (reads_on m r.now.hunts r.now.units).held =
       ap (λ o. (r.now.count + (reads_on m r.now.hunts r.now.units).skipped) + tail_by (reads_on m) from_fault o
@@ -228,20 +334,21 @@ keeps_parted m z past count r skipped held k live s h same mode list = record {
 }
 
 -- what it shows
-pub shows : (m : SourceMachine) (past count : ℕ) (r : Stretches) → Keeps m past count r → is_live m ≡ true →
+pub shows : (m : SourceMachine) (past count : ℕ) (front : List Placed) (r : Stretches) → Keeps m past count front r →
+    is_live m ≡ true →
     (past + count + skipped_by m ≡ (heard_of (reads_on m) from_fault r).skipped)
     × (held_of m ≡ (heard_of (reads_on m) from_fault r).held)
-shows m past count r k live =
-    let s = shows_units m r.now.units k.stands live in
-    let c : skipped_by m ≡ (reads_on m r.now.hunts r.now.units).skipped =
-    s.1 ∙ ap (λ (f : List Placed → Stream Packet). (f r.now.units).skipped) k.reading in
-    let a = k.past_is in let b = k.count_is in
-    (omega (arith, a, b, c), s.2 ∙ ap (λ (f : List Placed → Stream Packet). (f r.now.units).held) k.reading)
+shows m past count front r k live =
+    let s = shown_kept m past count front r k live in
+    let c = s.0 in let a = k.past_is in let b = k.count_is in
+    (omega (arith, a, b, c), s.1)
 
-pub locks : (m : SourceMachine) (past count : ℕ) (r : Stretches) → Keeps m past count r →
+pub locks : (m : SourceMachine) (past count : ℕ) (front : List Placed) (r : Stretches) → Keeps m past count front r →
     has_locked m ≡ (heard_of (reads_on m) from_fault r).locked
-locks m past count r k = locks_units m r.now.units k.stands
-    ∙ ap (λ (f : List Placed → Stream Packet). (f r.now.units).locked) k.reading
+locks m past count front r k =
+    locks_units m (front ++ r.now.units) k.stands
+    ∙ ap (λ (f : List Placed → Stream Packet). (f (front ++ r.now.units)).locked) k.reading
+    ∙ ap (λ (x : Stream Packet). x.locked) (k.passed r.now.units)
 
 pub goes_of : (s : Step Packet) → ((x : Fault) → s ≡ Faulty x → ⊥) → goes_on s ≡ true
 goes_of Quiet e = refl

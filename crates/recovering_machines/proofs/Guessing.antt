@@ -25,7 +25,7 @@ use Rattle.source_events.specs.declared.plan.SourceKind.{SourceKind}
 use Rattle.source_events.specs.declared.plan.SourceKind.TheVariants.{Itm as ItmKind, Stp as StpKind}
 use Rattle.source_machine.specs.Units.{before_on, kind_of as kind_on, reads_on, taken_on, units_after, units_at}
 use Rattle.source_machine.specs.Units.{units_from}
-use Rattle.source_machine.specs.UnitLaws.{quiet, shows_units}
+use Rattle.source_machine.specs.UnitLaws.{quiet}
 use Rattle.source_machine.specs.declared.machine.SourceMachine.{SourceMachine}
 use Rattle.source_machine.specs.declared.machine.SourceMachine.TheVariants.{Itm as ItmSource, Stp as StpSource}
 use Rattle.stretch_readings.specs.declared.heard.Heard.{Heard}
@@ -41,7 +41,7 @@ use Rattle.recovering_machines.specs.Guess.{comes_after_fault, guessed_by, near_
 use Rattle.recovering_machines.specs.Source.{Answers, Stands, kind_of, reads_of, with_byte}
 use Rattle.recovering_machines.specs.declared.guess.Guess.{Guess}
 use Rattle.recovering_machines.specs.declared.source.RecoveringSource.{RecoveringSource}
-use Rattle.recovering_machines.proofs.Bytes.{falls_by, goes_by}
+use Rattle.recovering_machines.proofs.Bytes.{falls_by, goes_by, none_kept}
 use Rattle.recovering_machines.proofs.ReadingOn.{starts}
 
 -- a hunt over at most two units has not locked
@@ -140,8 +140,7 @@ module _ (s : RecoveringSource) (r : Stretches) (at byte : ℕ) (step : Step Pac
   here = (longer reads r taken).now
 
   none : (reads r.now.hunts r.now.units).fault ≡ None
-  none = ap (λ (f : List Placed → Stream Packet). (f r.now.units).fault) (sym k.keeps.reading)
-      ∙ (shows_units s.machine r.now.units k.keeps.stands s.live).0
+  none = none_kept s.machine s.past s.count k.front r k.keeps s.live
 
   within : AllWithin at taken
   within = within_taken kind at byte a.own
@@ -358,8 +357,7 @@ module _ (s : RecoveringSource) (r : Stretches) (k : Stands s r) where
   reads_ = reads_of s
 
   sound_now : (reads_ r.now.hunts r.now.units).fault ≡ None
-  sound_now = ap (λ (f : List Placed → Stream Packet). (f r.now.units).fault) (sym k.keeps.reading)
-      ∙ (shows_units s.machine r.now.units k.keeps.stands s.live).0
+  sound_now = none_kept s.machine s.past s.count k.front r k.keeps s.live
 
   abbrev cut_now : Stretch
   cut_now = (parted reads_ from_fault r).now

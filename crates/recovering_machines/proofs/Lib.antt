@@ -3,6 +3,8 @@ pub mod Bytes
 pub mod Runs
 pub mod Going
 pub mod Wholes
+pub mod Passed
+pub mod Beginning
 pub mod OnceTaken
 pub mod FoundPackets
 pub mod ReadingOn

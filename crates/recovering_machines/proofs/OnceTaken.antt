@@ -1,7 +1,9 @@
 -- Bytes of a source that are taken at once.
-use Rattle.std.proofs.Common.{◌≡◌, ℕ, List, [], ◌∷◌, ◌++◌, refl, sym, ◌∙◌, ap, subst, Option, None, Some, Bool, true}
+use Rattle.std.proofs.Common.{◌≡◌, ℕ, ◌+◌, List, [], ◌∷◌, ◌++◌, length, refl, sym, ◌∙◌, ap, subst, append_assoc, Option}
+use Rattle.std.proofs.Common.{None, Some, Bool}
 use Rattle.std.specs.List.{sum_by}
-use Rattle.std.specs.Prelude.{IfSome}
+use Rattle.std.specs.Prelude.{IfSome, map}
+use Rattle.std.proofs.lemmas.List.{map-append}
 use Rattle.trace_values.specs.declared.cell.Cell.{Cell}
 use Rattle.trace_values.specs.declared.step.Step.{Step}
 use Rattle.trace_values.specs.Placed.{Place, Placed, byte_at}
@@ -15,7 +17,6 @@ use Rattle.source_events.specs.Runs.{bytes_of, placed_run}
 use Rattle.source_machine.specs.Finding.{PassesOver}
 use Rattle.source_machine.specs.Machine as machine
 use Rattle.source_machine.specs.Units.{ReadsAlike, StandsOn, kind_of as kind_on, reading_on, reads_on}
-use Rattle.source_machine.specs.UnitLaws.{shows_units}
 use Rattle.source_machine.specs.declared.machine.SourceMachine.{SourceMachine}
 use Rattle.source_machine.specs.declared.machine.SourceMachine.TheVariants.{Itm as ItmSource, Stp as StpSource}
 use Rattle.source_merge.proofs.RunSteps.{placed_more}
@@ -27,9 +28,11 @@ use Rattle.stp_codec.specs.Decoder as stp
 use Rattle.recovering_machines.specs.Found.{PassesCells, TakesCells, ended, heard_in, kept}
 use Rattle.recovering_machines.specs.Run.{GoesOn, units_in, with_run}
 use Rattle.recovering_machines.specs.Source.{Stands, heard_by}
-use Rattle.recovering_machines.specs.Units.{AreWhole, units_of}
+use Rattle.recovering_machines.specs.Units.{ArePassed, AreWhole, after_passed, later, units_of}
 use Rattle.recovering_machines.specs.declared.source.RecoveringSource.{RecoveringSource}
+use Rattle.recovering_machines.proofs.Bytes.{none_kept}
 use Rattle.recovering_machines.proofs.Going.{all_go, given_more, sources_settle}
+use Rattle.recovering_machines.proofs.Passed.{kept_later, same_given}
 use Rattle.recovering_machines.proofs.Wholes.{reads_bytes, stands_bytes, stands_units, units_more}
 
 settles_on : (m : SourceMachine) → IsSettling (reads_on m)
@@ -72,8 +75,7 @@ passes_item {reading} {was} {now} half item bytes p front last e =
     (kept_item half last.at item)
 
 module _ (old new : RecoveringSource) (same_past : new.past ≡ old.past) (same_count : new.count ≡ old.count)
-    (same_hunts : new.hunts ≡ old.hunts) (alike : ReadsAlike old.machine new.machine) (whole : old.whole ≡ true)
-  where
+    (same_hunts : new.hunts ≡ old.hunts) (alike : ReadsAlike old.machine new.machine) where
     module _ (cells : List Cell) (packets : List (Packet × Place))
         (p : PassesCells (machine.reading_of old.machine) (machine.Stands old.machine) (machine.Stands new.machine) cells
         packets) where
@@ -87,39 +89,51 @@ module _ (old new : RecoveringSource) (same_past : new.past ≡ old.past) (same_
         abbrev w : List Placed
         w = units_in kind cells
 
-        own : AreWhole kind r.now.units
-        own = k.whole whole
+        abbrev front : List Placed
+        front = k.front
 
-        here : r.now.units ≡ units_of kind own.bytes
+        own : AreWhole kind (front ++ r.now.units)
+        own = k.whole
+
+        here : front ++ r.now.units ≡ units_of kind own.bytes
         here = own.are
 
-        all : r.now.units ++ w ≡ units_of kind (own.bytes ++ placed_run cells)
-        all = ap (λ (l : List Placed). l ++ w) here ∙ units_more kind own.bytes cells
+        all : front ++ (r.now.units ++ w) ≡ units_of kind (own.bytes ++ placed_run cells)
+        all = sym (append_assoc front r.now.units w) ∙ ap (λ (l : List Placed). l ++ w) here
+            ∙ units_more kind own.bytes cells
 
         stood : machine.Stands old.machine own.bytes
         stood = stands_bytes old.machine own.bytes (subst (StandsOn old.machine) here k.keeps.stands)
 
-        read_here : reading_on old.machine r.now.units ≡ machine.reading_of old.machine own.bytes
-        read_here = ap (reading_on old.machine) here ∙ sym (reads_bytes old.machine own.bytes)
+        -- bytes whose units are these are read as they are after those that are passed over
+        read_of : (u : List Placed) (bytes : List Placed) → front ++ u ≡ units_of kind bytes →
+            machine.reading_of old.machine bytes ≡ after_passed (length front) (reads r.now.hunts u)
+        read_of u bytes e =
+            reads_bytes old.machine bytes ∙ ap (reading_on old.machine) (sym e)
+            ∙ ap (λ (f : List Placed → Stream Packet). f (front ++ u)) k.keeps.reading ∙ k.keeps.passed u
 
-        read_all : reading_on old.machine (r.now.units ++ w)
-            ≡ machine.reading_of old.machine (own.bytes ++ placed_run cells)
-        read_all = ap (reading_on old.machine) all ∙ sym (reads_bytes old.machine (own.bytes ++ placed_run cells))
+        read_here : machine.reading_of old.machine own.bytes
+            ≡ after_passed (length front) (reads r.now.hunts r.now.units)
+        read_here = read_of r.now.units own.bytes here
+
+        read_all : machine.reading_of old.machine (own.bytes ++ placed_run cells)
+            ≡ after_passed (length front) (reads r.now.hunts (r.now.units ++ w))
+        read_all = read_of (r.now.units ++ w) (own.bytes ++ placed_run cells) all
 
         none : (reads r.now.hunts r.now.units).fault ≡ None
-        none = ap (λ (f : List Placed → Stream Packet). (f r.now.units).fault) (sym k.keeps.reading)
-            ∙ (shows_units old.machine r.now.units k.keeps.stands old.live).0
+        none = none_kept old.machine old.past old.count front r k.keeps old.live
 
         sound : (reads r.now.hunts (r.now.units ++ w)).fault ≡ None
-        sound = ap (λ (f : List Placed → Stream Packet). (f (r.now.units ++ w)).fault) (sym k.keeps.reading)
-            ∙ ap (λ (s : Stream Packet). s.fault) read_all ∙ p.sound own.bytes stood
+        sound = sym (ap (λ (s : Stream Packet). s.fault) read_all) ∙ p.sound own.bytes stood
 
         given : (reads r.now.hunts (r.now.units ++ w)).given ≡ (reads r.now.hunts r.now.units).given ++ kept packets
         given =
-            ap (λ (f : List Placed → Stream Packet). (f (r.now.units ++ w)).given) (sym k.keeps.reading)
-            ∙ ap (λ (s : Stream Packet). s.given) read_all ∙ p.given own.bytes stood
-            ∙ ap (λ (s : Stream Packet). s.given ++ kept packets) (sym read_here)
-            ∙ ap (λ (f : List Placed → Stream Packet). (f r.now.units).given ++ kept packets) k.keeps.reading
+            let n = length front in let was = (reads r.now.hunts r.now.units).given in
+            same_given n (reads r.now.hunts (r.now.units ++ w)).given (was ++ kept packets)
+            (sym (ap (λ (s : Stream Packet). s.given) read_all) ∙ p.given own.bytes stood
+            ∙ ap (λ (s : Stream Packet). s.given ++ kept packets) read_here
+            ∙ ap (λ l. map (later n) was ++ l) (sym (kept_later n packets))
+            ∙ sym (map-append (later n) was (kept packets)))
 
         goes : with_run old r cells ≡ longer reads r w
         goes = all_go reads (settles_on old.machine) w r sound
@@ -127,24 +141,27 @@ module _ (old new : RecoveringSource) (same_past : new.past ≡ old.past) (same_
         pub goes_on : GoesOn old r cells
         goes_on = record { list = goes; more = kept packets; given = given }
 
-        now_all : r.now.units ++ w ≡ units_of (kind_on new.machine) (own.bytes ++ placed_run cells)
+        now_all : front ++ (r.now.units ++ w) ≡ units_of (kind_on new.machine) (own.bytes ++ placed_run cells)
         now_all = all ∙ ap (λ (z : SourceKind). units_of z (own.bytes ++ placed_run cells)) (sym alike.kind)
 
         stands_after : Stands new (longer reads r w)
         stands_after = record {
+          front = front;
           keeps =
               record {
                 stands = subst (StandsOn new.machine) (sym now_all)
                     (stands_units new.machine (own.bytes ++ placed_run cells) (p.list own.bytes stood));
                 reading = alike.own ∙ k.keeps.reading
                     ∙ ap (λ (f : Bool → List Placed → Stream Packet). f r.now.hunts) (sym alike.any);
+                passed = subst (λ (f : Bool → List Placed → Stream Packet). ArePassed (f r.now.hunts) front)
+                    (sym alike.any) k.keeps.passed;
                 past_is = same_past ∙ k.keeps.past_is
                     ∙ ap (λ (f : Bool → List Placed → Stream Packet). sum_by (lost_in f from_fault) r.past)
                     (sym alike.any);
-                count_is = same_count ∙ k.keeps.count_is;
+                count_is = ap (λ n. n + length front) same_count ∙ k.keeps.count_is;
               };
           hunts = same_hunts ∙ k.hunts;
-          whole = λ e. record { bytes = own.bytes ++ placed_run cells; are = now_all };
+          whole = record { bytes = own.bytes ++ placed_run cells; are = now_all };
         }
 
         pub list_after : Stands new (with_run old r cells)
@@ -165,14 +182,15 @@ module _ (old new : RecoveringSource) (same_past : new.past ≡ old.past) (same_
 
 -- what it stood for it stands for, where nothing was taken
 pub stays : (old new : RecoveringSource) → new.past ≡ old.past → new.count ≡ old.count → new.hunts ≡ old.hunts →
-    ReadsAlike old.machine new.machine → old.whole ≡ true →
+    ReadsAlike old.machine new.machine →
     ((u : List Placed) → machine.Stands old.machine u → machine.Stands new.machine u) → (r : Stretches) → Stands old r →
     Stands new r
-stays old new past count hunts alike whole list r k =
-    let own = k.whole whole in
-    let now : r.now.units ≡ units_of (kind_on new.machine) own.bytes =
+stays old new past count hunts alike list r k =
+    let own = k.whole in
+    let now : k.front ++ r.now.units ≡ units_of (kind_on new.machine) own.bytes =
     own.are ∙ ap (λ (z : SourceKind). units_of z own.bytes) (sym alike.kind) in
     record {
+      front = k.front;
       keeps =
           record {
             stands = subst (StandsOn new.machine) (sym now) (stands_units new.machine own.bytes
@@ -180,12 +198,14 @@ stays old new past count hunts alike whole list r k =
                 (subst (StandsOn old.machine) own.are k.keeps.stands))));
             reading = alike.own ∙ k.keeps.reading
                 ∙ ap (λ (f : Bool → List Placed → Stream Packet). f r.now.hunts) (sym alike.any);
+            passed = subst (λ (f : Bool → List Placed → Stream Packet). ArePassed (f r.now.hunts) k.front)
+                (sym alike.any) k.keeps.passed;
             past_is = past ∙ k.keeps.past_is
                 ∙ ap (λ (f : Bool → List Placed → Stream Packet). sum_by (lost_in f from_fault) r.past) (sym alike.any);
-            count_is = count ∙ k.keeps.count_is;
+            count_is = ap (λ n. n + length k.front) count ∙ k.keeps.count_is;
           };
       hunts = hunts ∙ k.hunts;
-      whole = λ e. record { bytes = own.bytes; are = now };
+      whole = record { bytes = own.bytes; are = now };
     }
 
 pub if_some : {A : Type 0} (P Q : A → Type 0) → ((x : A) → P x → Q x) → (o : Option A) → IfSome o P → IfSome o Q

@@ -1,7 +1,5 @@
 -- Units that are those of whole bytes.
 use Rattle.std.proofs.Common.{◌≡◌, ℕ, List, [], ◌∷◌, ◌++◌, refl, sym, ◌∙◌, ap, true}
-use Rattle.std.specs.Prelude.{◌==◌}
-use Rattle.std.proofs.lemmas.Bool.{eqb-true}
 use Rattle.std.proofs.lemmas.Grind.{flat_map-append}
 use Rattle.trace_values.specs.declared.cell.Cell.{Cell}
 use Rattle.trace_values.specs.declared.step.Step.{Step}
@@ -14,7 +12,7 @@ use Rattle.source_events.specs.declared.plan.SourceKind.{SourceKind}
 use Rattle.source_events.specs.declared.plan.SourceKind.TheVariants.{Itm, Stp}
 use Rattle.source_events.specs.Runs.{placed_run}
 use Rattle.source_machine.specs.Machine as machine
-use Rattle.source_machine.specs.Units.{StandsOn, kind_of, reading_on, taken_on, units_from}
+use Rattle.source_machine.specs.Units.{StandsOn, kind_of, reading_on, taken_on}
 use Rattle.source_machine.specs.declared.machine.SourceMachine.{SourceMachine}
 use Rattle.source_machine.specs.declared.machine.SourceMachine.TheVariants.{Itm as ItmSource, Stp as StpSource}
 use Rattle.recovering_machines.specs.Run.{units_in}
@@ -43,18 +41,6 @@ units_more kind u cells =
 pub none_whole : (kind : SourceKind) → AreWhole kind []
 none_whole Itm = record { bytes = []; are = refl }
 none_whole Stp = record { bytes = []; are = refl }
-
-pub itm_whole : (half at byte : ℕ) → AreWhole Itm (units_from Itm half at byte)
-itm_whole half at byte = record { bytes = byte_at at byte ∷ []; are = refl }
-
-pub stp_whole : (half at byte : ℕ) → half ≡ 0 → AreWhole Stp (units_from Stp half at byte)
-stp_whole half at byte e = record {
-  bytes = byte_at at byte ∷ [];
-  are = ap (λ (h : ℕ). units_from Stp h at byte) e;
-}
-
-pub half_is : (half : ℕ) → (half == 0) ≡ true → half ≡ 0
-half_is half e = eqb-true half 0 e
 
 taken_whole : (kind : SourceKind) (at byte : ℕ) (s : Step Packet) → goes_on s ≡ true →
     taken_on kind at byte s ≡ units_of kind (byte_at at byte ∷ [])

@@ -1,5 +1,5 @@
 -- What a recovering source keeps (how it goes on after a fault is this project's profile).
-use Rattle.std.specs.Prelude.{◌≡◌, ℕ, ◌+◌, List, ◌++◌, map, Bool, None, true}
+use Rattle.std.specs.Prelude.{◌≡◌, ℕ, ◌+◌, List, ◌++◌, length, map, Bool, None}
 use Rattle.std.specs.List.{sum_by}
 use Rattle.trace_values.specs.Placed.{Placed}
 use Rattle.trace_values.specs.Stream.{Stream, Grows}
@@ -12,7 +12,7 @@ use Rattle.source_machine.specs.declared.machine.SourceMachine.{SourceMachine}
 use Rattle.stretch_readings.specs.declared.heard.Heard.{Heard}
 use Rattle.stretch_readings.specs.Stretches.{One, Stretches, fed_from, heard_of, from_fault, lost_in}
 use Rattle.stretch_readings.specs.Steps.{raised}
-use Rattle.recovering_machines.specs.Units.{AreWhole}
+use Rattle.recovering_machines.specs.Units.{ArePassed, AreWhole}
 use Rattle.recovering_machines.specs.declared.source.RecoveringSource.{RecoveringSource}
 
 -- what its units read as in a stretch
@@ -22,19 +22,22 @@ reads_of s = units.reads_on s.machine
 abbrev pub kind_of : RecoveringSource → SourceKind
 kind_of s = units.kind_of s.machine
 
--- Its machine stands for the units of the last stretch, in that one's mode, and it has counted what was skipped before.
-pub record Keeps (m : SourceMachine) (past count : ℕ) (r : Stretches) : Type 0 where
-  pub stands : units.StandsOn m r.now.units
+-- Its machine stands for the units of the last stretch, in that one's mode, after some that its hunt passes over first.
+-- It has counted what was skipped before, without those.
+pub record Keeps (m : SourceMachine) (past count : ℕ) (front : List Placed) (r : Stretches) : Type 0 where
+  pub stands : units.StandsOn m (front ++ r.now.units)
   pub reading : units.reading_on m ≡ units.reads_on m r.now.hunts
+  pub passed : ArePassed (units.reads_on m r.now.hunts) front
   pub past_is : past ≡ sum_by (lost_in (units.reads_on m) from_fault) r.past
-  pub count_is : count ≡ r.now.count
+  pub count_is : count + length front ≡ r.now.count
 
--- It stands for these stretches: its machine does, and it knows whether the last of them hunts, and whether that one
--- began with a whole byte.
+-- It stands for these stretches: its machine does, with units that are passed over where the last stretch begins in the
+-- middle of a byte, so that all are those of whole bytes; and it knows whether that stretch hunts.
 pub record Stands (s : RecoveringSource) (r : Stretches) : Type 0 where
-  pub keeps : Keeps s.machine s.past s.count r
+  pub front : List Placed
+  pub keeps : Keeps s.machine s.past s.count front r
   pub hunts : s.hunts ≡ r.now.hunts
-  pub whole : s.whole ≡ true → AreWhole (kind_of s) r.now.units
+  pub whole : AreWhole (kind_of s) (front ++ r.now.units)
 
 -- what they read as
 abbrev pub heard_by : RecoveringSource → Stretches → Stream (Heard Packet)

@@ -4,15 +4,15 @@
 //! Packet Protocol', and of the MIPI System Trace Protocol, version 2. Which bytes are faults, and how a reading goes
 //! on after one, is this project's profile.
 
-ghost use Rattle.std.specs.Prelude.{◌≡◌, ◌+◌, ◌≤◌, ℕ, true};
+ghost use Rattle.std.specs.Prelude.{◌≡◌, ◌+◌, ◌≤◌, true};
 ghost use Rattle.stretch_readings.specs.Steps.{raised};
 ghost use Rattle.source_events.specs.Fitting.{PacketFits};
 ghost use Rattle.trace_values.specs.ReadingModes.{packets_hunt};
 ghost use Rattle.trace_values.specs.Stream.{LocksAfter, StepFits};
 ghost use Rattle.source_machine.specs.Machine.{is_live};
-ghost use Rattle.source_machine.specs.Units.{kind_of as kind_on, units_from};
+ghost use Rattle.source_machine.specs.Units.{kind_of as kind_on};
 ghost use Rattle.trace_values.specs.declared.limits.TheConstants.{COUNT_ROOM};
-ghost use Rattle.recovering_machines.specs.Units.{AreWhole};
+ghost use Rattle.recovering_machines.specs.Units.{BeginsHunt};
 
 use crate::found::{take_bytes, take_found};
 use crate::hearer::Hearer;
@@ -33,13 +33,19 @@ pub struct RecoveringSource {
     machine: SourceMachine,
     /// How many units the stretches before the present one skipped.
     past: u64,
-    /// How many units the present one counts before its own.
+    /// How many units the present one counts before those that the machine read.
     count: u64,
     /// The present one hunts.
     hunts: bool,
-    /// The present one began with a whole byte: so packets are found in the bytes of a run.
-    whole: bool,
     ghost live: { is_live machine ≡ true },
+}
+
+/// The byte with which a hunt begins.
+#[derive(Clone, Copy, Drop)]
+struct FirstByte {
+    byte: u8,
+    /// How many of its units are before the hunt's, which passes over them.
+    passed: u64,
 }
 
 /// The packets are read in a hunt from the first one on.
@@ -52,14 +58,17 @@ fn hunts(packets: PacketsMode) -> bool
     }
 }
 
-/// The units of a byte from this half on are those of a whole byte.
-fn is_whole_from(machine: &SourceMachine, half: u8) -> bool
-    ensures { (at byte : ℕ) → result ≡ true →
-        AreWhole (kind_on machine.now) (units_from (kind_on machine.now) half at byte) }
+/// The byte with which a hunt begins that begins at this half of a byte. Machines read whole bytes: so a low nibble that
+/// is not the hunt's is made 0, over which every hunt passes, since its pattern begins with F.
+fn first_byte(machine: &SourceMachine, half: u8, byte: u8) -> FirstByte
+    ensures { BeginsHunt (kind_on machine.now) half byte result }
 {
     match machine {
-        SourceMachine::Itm(_) => true,
-        SourceMachine::Stp(_) => half == 0,
+        SourceMachine::Stp(_) if half > 0 => FirstByte {
+            byte: byte / 16 * 16,
+            passed: 1,
+        },
+        _ => FirstByte { byte, passed: 0 },
     }
 }
 
@@ -103,7 +112,6 @@ impl RecoveringSource {
             past: 0,
             count: 0,
             hunts: hunts(packets),
-            whole: true,
         }
     }
 
@@ -124,10 +132,10 @@ impl RecoveringSource {
     {
         match self.machine.feed_units(at, byte) {
             Step::Fault(fault) => {
+                let first = first_byte(&self.machine, fault.half, byte);
                 self.past += self.count + self.machine.skipped();
-                self.count = self.machine.held();
-                self.whole = is_whole_from(&self.machine, fault.half);
-                self.machine = self.machine.hunting_from(at, fault.half, byte);
+                self.count = self.machine.held().saturating_sub(first.passed);
+                self.machine = self.machine.hunting_from(at, 0, first.byte);
                 self.hunts = true;
                 Step::Fault(fault)
             }
@@ -150,15 +158,11 @@ impl RecoveringSource {
         ensures none { result ≡ None → ((r : Stretches) → Stands self.old r → Stands self.new r)
             × (total_of self.new ≤ total_of self.old) }
     {
-        if self.whole {
-            take_bytes(&mut self.machine, bytes)
-        } else {
-            None
-        }
+        take_bytes(&mut self.machine, bytes)
     }
 
     /// Takes packets of a run of this source from this index on, as long as they are found, and gives them. Answers the
-    /// index after them. None is found while the present stretch began in the middle of a byte.
+    /// index after them.
     #[inline(always)]
     pub fn take_packets<R: Run, V: Hearer>(
         &mut self,
@@ -176,11 +180,7 @@ impl RecoveringSource {
         ensures goes { (r : Stretches) → Stands self.old r →
             GoesOn self.old r (between from result (R.cells run.now)) }
     {
-        if self.whole {
-            take_found(&mut self.machine, id, run, from, out, to)
-        } else {
-            from
-        }
+        take_found(&mut self.machine, id, run, from, out, to)
     }
 
     /// Cuts the source's list here: what comes is hunted anew with a count of 0, and what is held is skipped.
@@ -197,7 +197,6 @@ impl RecoveringSource {
         self.count = 0;
         self.machine = self.machine.hunting_again();
         self.hunts = true;
-        self.whole = true;
     }
 
     /// The present stretch hunts: the first one where it was made to hunt, and each further one.

@@ -12,10 +12,11 @@ returns-clause-list c = λ r k.
     let s = c.args.self.now in
     let z = c.hunting_again-self in
     record {
-      keeps = keeps_parted s.machine z.result s.past s.count r c.skipped.result c.held.result k.keeps s.live
+      front = [];
+      keeps = keeps_parted s.machine z.result s.past s.count k.front r c.skipped.result c.held.result k.keeps s.live
           c.skipped.ensures c.held.ensures z.ensures.reads z.ensures.mode z.ensures.list;
       hunts = refl;
-      whole = λ e. none_whole _;
+      whole = none_whole _;
     }
 
 pub returns-clause-given : goal.returns-clause-given

@@ -1,10 +1,19 @@
-use Rattle.std.proofs.Common.{refl}
+use Rattle.std.proofs.Common.{[], refl}
+use Rattle.recovering_machines.proofs.Passed.{none_passed}
 use Rattle.recovering_machines.proofs.Wholes.{none_whole}
 use Rattle.recovering_machines.proofs.source.RecoveringSource.new.Goals as goal
 
 pub returns-clause-fresh : goal.returns-clause-fresh
 returns-clause-fresh c = record {
-  keeps = record { stands = c.new.ensures.units; reading = c.new.ensures.mode; past_is = refl; count_is = refl };
+  front = [];
+  keeps =
+      record {
+        stands = c.new.ensures.units;
+        reading = c.new.ensures.mode;
+        passed = none_passed _;
+        past_is = refl;
+        count_is = refl;
+      };
   hunts = c.hunts.ensures;
-  whole = λ e. none_whole _;
+  whole = none_whole _;
 }
