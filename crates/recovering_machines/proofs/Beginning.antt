@@ -5,7 +5,7 @@ use Rattle.trace_values.specs.Nibbles.{low_of, high_of}
 use Rattle.trace_values.specs.Placed.{Placed, byte_at}
 use Rattle.trace_values.specs.Stream.{Stream}
 use Rattle.stp_codec.specs.Decoder as stp
-use Rattle.source_machine.specs.Units.{kind_of, reads_on, units_from}
+use Rattle.source_machine.specs.Units.{kind_of, reads_on, units_at, units_from}
 use Rattle.source_machine.specs.declared.machine.SourceMachine.{SourceMachine}
 use Rattle.source_machine.specs.declared.machine.SourceMachine.TheVariants.{Itm as ItmSource, Stp as StpSource}
 use Rattle.stp_codec.specs.declared.decoder.StpDecoder.{StpDecoder}
@@ -17,7 +17,7 @@ pub record Begins (m : SourceMachine) (half at byte : ℕ) (first : FirstByte) :
   pub front : List Placed
   pub size : length front ≡ first.passed
   pub passed : ArePassed (reads_on m true) front
-  pub units : units_from (kind_of m) 0 at first.byte ≡ front ++ units_from (kind_of m) half at byte
+  pub units : units_at (kind_of m) at first.byte ≡ front ++ units_from (kind_of m) half at byte
   pub whole : AreWhole (kind_of m) (front ++ units_from (kind_of m) half at byte)
 
 -- of a byte whose low nibble is made 0

@@ -135,7 +135,7 @@ impl RecoveringSource {
                 let first = first_byte(&self.machine, fault.half, byte);
                 self.past += self.count + self.machine.skipped();
                 self.count = self.machine.held().saturating_sub(first.passed);
-                self.machine = self.machine.hunting_from(at, 0, first.byte);
+                self.machine = self.machine.hunting_from(at, first.byte);
                 self.hunts = true;
                 Step::Fault(fault)
             }

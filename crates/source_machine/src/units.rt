@@ -5,7 +5,7 @@ ghost use Rattle.std.specs.Prelude.{◌≡◌, ◌+◌, ◌≤◌, List, None, [
 ghost use Rattle.source_machine.specs.Names.{PacketFits, Placed, HasRoom, Tells};
 ghost use Rattle.source_machine.specs.Machine.{held_of, is_live, skipped_by};
 ghost use Rattle.source_machine.specs.Units.{StandsOn, TakesUnits, kind_of, reading_on, reads_on};
-ghost use Rattle.source_machine.specs.Units.{units_after, units_from};
+ghost use Rattle.source_machine.specs.Units.{units_after, units_at};
 
 use crate::machine::{SourceMachine, itm_step, stp_step};
 use itm_codec::ItmDecoder;
@@ -47,13 +47,12 @@ impl SourceMachine {
         }
     }
 
-    /// One of the same source that hunts, and has taken the units of the byte at this offset from this half on. Those
-    /// of an ITM source are whole bytes, whatever the half.
-    pub fn hunting_from(&self, at: u64, half: u8, byte: u8) -> SourceMachine
+    /// One of the same source that hunts, and has taken the byte at this offset.
+    pub fn hunting_from(&self, at: u64, byte: u8) -> SourceMachine
         ensures kind { kind_of result ≡ kind_of self.now }
         ensures reads { reads_on result ≡ reads_on self.now }
         ensures mode { reading_on result ≡ reads_on result true }
-        ensures list { StandsOn result (units_from (kind_of self.now) half at byte) }
+        ensures list { StandsOn result (units_at (kind_of self.now) at byte) }
         ensures live { is_live result ≡ true }
         ensures few { held_of result + skipped_by result ≤ 2 }
     {
@@ -63,12 +62,9 @@ impl SourceMachine {
                 decoder.feed(at, byte);
                 SourceMachine::Itm(decoder)
             }
-            SourceMachine::Stp(decoder) => SourceMachine::Stp(StpDecoder::hunting_from(
-                decoder.order(),
-                at,
-                half,
-                byte,
-            )),
+            SourceMachine::Stp(decoder) => {
+                SourceMachine::Stp(StpDecoder::hunting_from(decoder.order(), at, byte))
+            }
         }
     }
 

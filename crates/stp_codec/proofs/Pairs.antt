@@ -1,5 +1,5 @@
 -- A byte after a list of nibbles, by its two nibbles.
-use Rattle.std.proofs.Common.{◌≡◌, ℕ, zero, suc, ◌/◌, ◌<◌, List, [], ◌∷◌, ◌++◌, refl, sym, ◌∙◌, ap, subst}
+use Rattle.std.proofs.Common.{◌≡◌, ℕ, ◌/◌, ◌<◌, List, [], ◌∷◌, ◌++◌, refl, sym, ◌∙◌, ap, subst}
 use Rattle.std.proofs.Common.{append_assoc, append-nil, ◌⊎◌, inl, inr, Bool, true, false, None}
 use Rattle.trace_values.specs.declared.fault.Fault.{Fault}
 use Rattle.stp_codec.specs.Names.{Step, Quiet, Skipping, Fault as Faulty, Placed, low_of, high_of, Grows}
@@ -8,7 +8,7 @@ use Rattle.trace_values.proofs.Nibbling.{both, IsPair, grows_both}
 use Rattle.stp_codec.specs.declared.decoder.StpDecoder.{StpDecoder}
 use Rattle.stp_codec.specs.Reading.{items_at}
 use Rattle.stp_codec.specs.Decoder.{StandsAt, ReadsAt, IsSettled, order_of, is_hunter, nibble_at}
-use Rattle.stp_codec.specs.Nibbles.{IsHalf, TakesNibbles, taken_by, before_by, nibbles_to, nibbles_before, nibbles_from}
+use Rattle.stp_codec.specs.Nibbles.{IsHalf, TakesNibbles, taken_by, before_by, nibbles_to, nibbles_before}
 use Rattle.stp_codec.proofs.Bytes.{high_is, IsGiven}
 use Rattle.stp_codec.proofs.Taken.{same_order, to_stands}
 
@@ -139,20 +139,10 @@ taken_all : (at byte : ℕ) (s : Step StpItem) → goes_on s ≡ true →
 taken_all at byte (Faulty f) e = cc
 taken_all at byte x e = refl
 
--- a new one that hunts, with a byte, and with a high nibble
-pub hunts_pair : (d e : StpDecoder) (at byte : ℕ) (s : Step StpItem) (half : ℕ) → half ≡ 0 → is_hunter d ≡ true →
-    TakesNibbles d e [] at byte s → StandsAt e (nibbles_from half at byte) × (goes_on s ≡ true)
-hunts_pair d e at byte s half z h t = (
-  subst (λ k. StandsAt e (nibbles_from k at byte)) (sym z) (subst (StandsAt e) (taken_all at byte s on) t.list),
-  on,
-) where
+-- a new one that hunts, with a byte
+pub hunts_pair : (d e : StpDecoder) (at byte : ℕ) (s : Step StpItem) → is_hunter d ≡ true →
+    TakesNibbles d e [] at byte s → StandsAt e (low_of at byte ∷ (high_of at byte ∷ [])) × (goes_on s ≡ true)
+hunts_pair d e at byte s h t = (subst (StandsAt e) (taken_all at byte s on) t.list, on) where
   on : goes_on s ≡ true
   on = no_fault (order_of d) [] (taken_by at byte s) at s refl
       (subst (λ x. Grows (items_at (order_of d) x []) (items_at (order_of d) x (taken_by at byte s)) at s) h t.grows)
-
-pub hunts_high : (e : StpDecoder) (at byte half : ℕ) → (half ≡ 0 → ⊥) → byte < 256 → IsSettled e →
-    ReadsAt e (nibble_at at 1 (byte / 16) ∷ []) → StandsAt e (nibbles_from half at byte)
-hunts_high e at byte zero z small settled list = absurd (z refl)
-hunts_high e at byte (suc half) z small settled list =
-    subst (λ b. StandsAt e (b ∷ [])) (high_is at byte small)
-    (to_stands e settled (nibble_at at 1 (byte / 16) ∷ []) list)

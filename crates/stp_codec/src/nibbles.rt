@@ -3,11 +3,11 @@
 //! Packets and their nibbles are those of the MIPI System Trace Protocol, version 2. That the low nibble of a byte
 //! comes first, and that a hunt begins at a fault's nibble, is this project's profile.
 
-ghost use Rattle.std.specs.Prelude.{◌≡◌, ℕ, ◌+◌, ◌<◌, ◌≤◌, List, None, [], false, true};
-ghost use Rattle.stp_codec.specs.Names.{Placed, HasRoom, Tells, COUNT_ROOM, Hunting, IsProperItem};
+ghost use Rattle.std.specs.Prelude.{◌≡◌, ℕ, ◌+◌, ◌<◌, ◌≤◌, ◌∷◌, List, None, [], false, true};
+ghost use Rattle.stp_codec.specs.Names.{Placed, HasRoom, Tells, COUNT_ROOM, Hunting, IsProperItem, low_of, high_of};
 ghost use Rattle.stp_codec.specs.Decoder.{IsSettled, Reads, ReadsAt, StandsAt, has_locked, held_of, is_hunter, is_live};
 ghost use Rattle.stp_codec.specs.Decoder.{order_of, read_of, skipped_by};
-ghost use Rattle.stp_codec.specs.Nibbles.{ReadsByte, TakesNibble, TakesNibbles, nibbles_after, nibbles_from};
+ghost use Rattle.stp_codec.specs.Nibbles.{ReadsByte, TakesNibble, TakesNibbles, nibbles_after};
 ghost use Rattle.stp_codec.specs.Reading.{items_at};
 
 use crate::decoder::{MANY, StpDecoder};
@@ -145,22 +145,16 @@ impl StpDecoder {
         self.order
     }
 
-    /// A decoder that hunts, and has taken the nibbles of the byte at this offset from this half on: both at 0, else
-    /// the high one.
-    pub fn hunting_from(order: Order, at: u64, half: u8, byte: u8) -> StpDecoder
-        ensures list { StandsAt result (nibbles_from half at byte) }
+    /// A decoder that hunts, and has taken the byte at this offset.
+    pub fn hunting_from(order: Order, at: u64, byte: u8) -> StpDecoder
+        ensures list { StandsAt result (low_of at byte ∷ (high_of at byte ∷ [])) }
         ensures mode { is_hunter result ≡ true }
         ensures order { order_of result ≡ order }
         ensures live { is_live result ≡ true }
         ensures few { held_of result + skipped_by result ≤ 2 }
     {
         let mut decoder = StpDecoder::hunting(order);
-        if half == 0 {
-            decoder.feed_nibbles(at, byte);
-            return decoder;
-        }
-        decoder.settle();
-        decoder.take_nibble(at, 1, byte / 16);
+        decoder.feed_nibbles(at, byte);
         decoder
     }
 

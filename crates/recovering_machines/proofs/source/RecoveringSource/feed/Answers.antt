@@ -2,7 +2,7 @@ use Rattle.std.proofs.Common.{◌≡◌, ◌∙◌, ap, sym, subst, refl, ◌++�
 use Rattle.trace_values.specs.declared.step.Step.TheVariants.{Fault as Faulty}
 use Rattle.trace_values.specs.Placed.{Placed}
 use Rattle.trace_values.specs.Stream.{Grows}
-use Rattle.source_machine.specs.Units.{StandsOn, TakesUnits, kind_of as kind_on, units_from}
+use Rattle.source_machine.specs.Units.{StandsOn, TakesUnits, kind_of as kind_on, units_at, units_from}
 use Rattle.stretch_readings.specs.Steps.{said_by, raised}
 use Rattle.recovering_machines.specs.Source.{heard_by, reads_of, with_byte}
 use Rattle.recovering_machines.specs.Units.{AreWhole, BeginsHunt}
@@ -24,7 +24,7 @@ returns-in-Fault-clause-list c = λ r k.
     let first = subst (λ kind. BeginsHunt kind x.half c.args.byte c.first_byte-self.result) same
     c.first_byte-self.ensures in
     let b = begins s.machine x.half c.args.at c.args.byte c.first_byte-self.result first in
-    let next = subst (λ kind. units_from kind 0 c.args.at c.first_byte-self.result.byte
+    let next = subst (λ kind. units_at kind c.args.at c.first_byte-self.result.byte
     ≡ b.front ++ units_from (kind_on s.machine) x.half c.args.at c.args.byte) (sym same) b.units in
     record {
       front = b.front;
