@@ -1,15 +1,13 @@
 -- The byte with which a hunt begins: its units are those of the hunt, after one that is passed over or none.
-use Rattle.std.proofs.Common.{◌≡◌, ℕ, zero, suc, ◌+◌, ◌*◌, ◌/◌, ◌%◌, List, [], ◌∷◌, ◌++◌, length, refl, sym, ◌∙◌, ap, subst}
+use Rattle.std.proofs.Common.{◌≡◌, ℕ, zero, suc, ◌*◌, ◌/◌, ◌%◌, List, [], ◌∷◌, ◌++◌, length, refl, sym, ◌∙◌, ap}
 use Rattle.std.proofs.Common.{arith, true}
 use Rattle.trace_values.specs.Nibbles.{low_of, high_of}
 use Rattle.trace_values.specs.Placed.{Placed, byte_at}
-use Rattle.trace_values.specs.Stream.{Stream}
 use Rattle.stp_codec.specs.Decoder as stp
 use Rattle.source_machine.specs.Units.{kind_of, reads_on, units_at, units_from}
 use Rattle.source_machine.specs.declared.machine.SourceMachine.{SourceMachine}
 use Rattle.source_machine.specs.declared.machine.SourceMachine.TheVariants.{Itm as ItmSource, Stp as StpSource}
-use Rattle.stp_codec.specs.declared.decoder.StpDecoder.{StpDecoder}
-use Rattle.recovering_machines.specs.Units.{ArePassed, AreWhole, BeginsHunt, units_of}
+use Rattle.recovering_machines.specs.Units.{ArePassed, AreWhole, BeginsHunt}
 use Rattle.recovering_machines.specs.declared.source.FirstByte.{FirstByte}
 use Rattle.recovering_machines.proofs.Passed.{none_passed, zero_passed}
 

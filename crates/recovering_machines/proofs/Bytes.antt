@@ -126,16 +126,16 @@ held_by : (m : SourceMachine) (hunts : Bool) (n : List Placed) (x : Fault) (at b
     BeginsHunt (kind_of m) x.half byte first →
     (reads_on m hunts (n ++ before_on (kind_of m) at byte (Faulty x))).fault ≡ None →
     (reads_on m hunts (n ++ taken_on (kind_of m) at byte (Faulty x))).fault ≡ fault_at at x → (
-      (first.passed ≡ 0)
-      ⊎ (first.passed + 1 ≤ (reads_on m hunts (n ++ taken_on (kind_of m) at byte (Faulty x))).held)
+    (first.passed ≡ 0)
+    ⊎ (first.passed + 1 ≤ (reads_on m hunts (n ++ taken_on (kind_of m) at byte (Faulty x))).held)
     )
 held_by (ItmSource d) hunts n x at byte first b e f = inl b.1
 held_by (StpSource d) hunts n x at byte first b e f = by x.half b e (ap is_none f) where
   by : (half : ℕ) → BeginsHunt StpKind half byte first →
       (reads_on (StpSource d) hunts (n ++ nibbles_before half at byte)).fault ≡ None →
       is_none (reads_on (StpSource d) hunts (n ++ nibbles_to half at byte)).fault ≡ false → (
-        (first.passed ≡ 0)
-        ⊎ (first.passed + 1 ≤ (reads_on (StpSource d) hunts (n ++ nibbles_to half at byte)).held)
+      (first.passed ≡ 0)
+      ⊎ (first.passed + 1 ≤ (reads_on (StpSource d) hunts (n ++ nibbles_to half at byte)).held)
       )
   by zero b e f = inl b.1
   by (suc half) b e f =

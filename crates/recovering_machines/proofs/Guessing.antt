@@ -1,6 +1,6 @@
 -- What a guess follows, byte by byte of its source.
-use Rattle.std.proofs.Common.{◌≡◌, ℕ, zero, suc, ◌+◌, ◌≤◌, ◌<◌, List, [], ◌∷◌, ◌++◌, drop, length, refl, sym, ◌∙◌, ap}
-use Rattle.std.proofs.Common.{subst, arith, append-nil, ◌⊎◌, inl, inr, Option, None, Some, Bool, true, false, cond}
+use Rattle.std.proofs.Common.{◌≡◌, ℕ, zero, suc, ◌+◌, ◌≤◌, List, [], ◌∷◌, ◌++◌, drop, length, refl, sym, ◌∙◌, ap}
+use Rattle.std.proofs.Common.{subst, arith, inl, inr, None, Bool, true, false, cond}
 use Rattle.std.specs.Prelude.{flat_map, is_none, not}
 use Rattle.trace_values.specs.declared.fault.Fault.{Fault}
 use Rattle.trace_values.specs.declared.step.Step.{Step}
@@ -32,12 +32,12 @@ use Rattle.stretch_readings.specs.declared.heard.Heard.{Heard}
 use Rattle.stretch_readings.specs.Stretches.{Stretch, Stretches, from_fault, heard_of, parted, told}
 use Rattle.stretch_readings.specs.Steps.{said_by, raised}
 use Rattle.stretch_readings.specs.Guessing.{AllBefore, AllWithin, as_guess, at_next, before_first, guess_of, guessed_in}
-use Rattle.stretch_readings.specs.Guessing.{has_fault, near_of}
+use Rattle.stretch_readings.specs.Guessing.{has_fault}
 use Rattle.stretch_readings.proofs.Feeding.{fallen, longer, told_broken, told_longer, told_none}
 use Rattle.stretch_readings.proofs.Guesses.{before_later, follows_next, guesses_now, hunted_all, hunted_before}
 use Rattle.stretch_readings.proofs.Guesses.{near_guessed, near_next, near_told, within_before}
 use Rattle.recovering_machines.specs.Guess.{Continues, Follows, HasSaid, IsOver, ReadsByte, ReadsOn, StateOf, Tracks}
-use Rattle.recovering_machines.specs.Guess.{comes_after_fault, guessed_by, near_by, read_on}
+use Rattle.recovering_machines.specs.Guess.{comes_after_fault, guessed_by, near_by}
 use Rattle.recovering_machines.specs.Source.{Answers, Stands, kind_of, reads_of, with_byte}
 use Rattle.recovering_machines.specs.declared.guess.Guess.{Guess}
 use Rattle.recovering_machines.specs.declared.source.RecoveringSource.{RecoveringSource}

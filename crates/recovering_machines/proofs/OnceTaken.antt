@@ -76,109 +76,109 @@ passes_item {reading} {was} {now} half item bytes p front last e =
 
 module _ (old new : RecoveringSource) (same_past : new.past ≡ old.past) (same_count : new.count ≡ old.count)
     (same_hunts : new.hunts ≡ old.hunts) (alike : ReadsAlike old.machine new.machine) where
-    module _ (cells : List Cell) (packets : List (Packet × Place))
-        (p : PassesCells (machine.reading_of old.machine) (machine.Stands old.machine) (machine.Stands new.machine) cells
-        packets) where
-      module _ (r : Stretches) (k : Stands old r) where
-        abbrev reads : Bool → List Placed → Stream Packet
-        reads = reads_on old.machine
+  module _ (cells : List Cell) (packets : List (Packet × Place))
+      (p : PassesCells (machine.reading_of old.machine) (machine.Stands old.machine) (machine.Stands new.machine) cells
+      packets) where
+    module _ (r : Stretches) (k : Stands old r) where
+      abbrev reads : Bool → List Placed → Stream Packet
+      reads = reads_on old.machine
 
-        abbrev kind : SourceKind
-        kind = kind_on old.machine
+      abbrev kind : SourceKind
+      kind = kind_on old.machine
 
-        abbrev w : List Placed
-        w = units_in kind cells
+      abbrev w : List Placed
+      w = units_in kind cells
 
-        abbrev front : List Placed
-        front = k.front
+      abbrev front : List Placed
+      front = k.front
 
-        own : AreWhole kind (front ++ r.now.units)
-        own = k.whole
+      own : AreWhole kind (front ++ r.now.units)
+      own = k.whole
 
-        here : front ++ r.now.units ≡ units_of kind own.bytes
-        here = own.are
+      here : front ++ r.now.units ≡ units_of kind own.bytes
+      here = own.are
 
-        all : front ++ (r.now.units ++ w) ≡ units_of kind (own.bytes ++ placed_run cells)
-        all = sym (append_assoc front r.now.units w) ∙ ap (λ (l : List Placed). l ++ w) here
-            ∙ units_more kind own.bytes cells
+      all : front ++ (r.now.units ++ w) ≡ units_of kind (own.bytes ++ placed_run cells)
+      all = sym (append_assoc front r.now.units w) ∙ ap (λ (l : List Placed). l ++ w) here
+          ∙ units_more kind own.bytes cells
 
-        stood : machine.Stands old.machine own.bytes
-        stood = stands_bytes old.machine own.bytes (subst (StandsOn old.machine) here k.keeps.stands)
+      stood : machine.Stands old.machine own.bytes
+      stood = stands_bytes old.machine own.bytes (subst (StandsOn old.machine) here k.keeps.stands)
 
-        -- bytes whose units are these are read as they are after those that are passed over
-        read_of : (u : List Placed) (bytes : List Placed) → front ++ u ≡ units_of kind bytes →
-            machine.reading_of old.machine bytes ≡ after_passed (length front) (reads r.now.hunts u)
-        read_of u bytes e =
-            reads_bytes old.machine bytes ∙ ap (reading_on old.machine) (sym e)
-            ∙ ap (λ (f : List Placed → Stream Packet). f (front ++ u)) k.keeps.reading ∙ k.keeps.passed u
+      -- bytes whose units are these are read as they are after those that are passed over
+      read_of : (u : List Placed) (bytes : List Placed) → front ++ u ≡ units_of kind bytes →
+          machine.reading_of old.machine bytes ≡ after_passed (length front) (reads r.now.hunts u)
+      read_of u bytes e =
+          reads_bytes old.machine bytes ∙ ap (reading_on old.machine) (sym e)
+          ∙ ap (λ (f : List Placed → Stream Packet). f (front ++ u)) k.keeps.reading ∙ k.keeps.passed u
 
-        read_here : machine.reading_of old.machine own.bytes
-            ≡ after_passed (length front) (reads r.now.hunts r.now.units)
-        read_here = read_of r.now.units own.bytes here
+      read_here : machine.reading_of old.machine own.bytes
+          ≡ after_passed (length front) (reads r.now.hunts r.now.units)
+      read_here = read_of r.now.units own.bytes here
 
-        read_all : machine.reading_of old.machine (own.bytes ++ placed_run cells)
-            ≡ after_passed (length front) (reads r.now.hunts (r.now.units ++ w))
-        read_all = read_of (r.now.units ++ w) (own.bytes ++ placed_run cells) all
+      read_all : machine.reading_of old.machine (own.bytes ++ placed_run cells)
+          ≡ after_passed (length front) (reads r.now.hunts (r.now.units ++ w))
+      read_all = read_of (r.now.units ++ w) (own.bytes ++ placed_run cells) all
 
-        none : (reads r.now.hunts r.now.units).fault ≡ None
-        none = none_kept old.machine old.past old.count front r k.keeps old.live
+      none : (reads r.now.hunts r.now.units).fault ≡ None
+      none = none_kept old.machine old.past old.count front r k.keeps old.live
 
-        sound : (reads r.now.hunts (r.now.units ++ w)).fault ≡ None
-        sound = sym (ap (λ (s : Stream Packet). s.fault) read_all) ∙ p.sound own.bytes stood
+      sound : (reads r.now.hunts (r.now.units ++ w)).fault ≡ None
+      sound = sym (ap (λ (s : Stream Packet). s.fault) read_all) ∙ p.sound own.bytes stood
 
-        given : (reads r.now.hunts (r.now.units ++ w)).given ≡ (reads r.now.hunts r.now.units).given ++ kept packets
-        given =
-            let n = length front in let was = (reads r.now.hunts r.now.units).given in
-            same_given n (reads r.now.hunts (r.now.units ++ w)).given (was ++ kept packets)
-            (sym (ap (λ (s : Stream Packet). s.given) read_all) ∙ p.given own.bytes stood
-            ∙ ap (λ (s : Stream Packet). s.given ++ kept packets) read_here
-            ∙ ap (λ l. map (later n) was ++ l) (sym (kept_later n packets))
-            ∙ sym (map-append (later n) was (kept packets)))
+      given : (reads r.now.hunts (r.now.units ++ w)).given ≡ (reads r.now.hunts r.now.units).given ++ kept packets
+      given =
+          let n = length front in let was = (reads r.now.hunts r.now.units).given in
+          same_given n (reads r.now.hunts (r.now.units ++ w)).given (was ++ kept packets)
+          (sym (ap (λ (s : Stream Packet). s.given) read_all) ∙ p.given own.bytes stood
+          ∙ ap (λ (s : Stream Packet). s.given ++ kept packets) read_here
+          ∙ ap (λ l. map (later n) was ++ l) (sym (kept_later n packets))
+          ∙ sym (map-append (later n) was (kept packets)))
 
-        goes : with_run old r cells ≡ longer reads r w
-        goes = all_go reads (settles_on old.machine) w r sound
+      goes : with_run old r cells ≡ longer reads r w
+      goes = all_go reads (settles_on old.machine) w r sound
 
-        pub goes_on : GoesOn old r cells
-        goes_on = record { list = goes; more = kept packets; given = given }
+      pub goes_on : GoesOn old r cells
+      goes_on = record { list = goes; more = kept packets; given = given }
 
-        now_all : front ++ (r.now.units ++ w) ≡ units_of (kind_on new.machine) (own.bytes ++ placed_run cells)
-        now_all = all ∙ ap (λ (z : SourceKind). units_of z (own.bytes ++ placed_run cells)) (sym alike.kind)
+      now_all : front ++ (r.now.units ++ w) ≡ units_of (kind_on new.machine) (own.bytes ++ placed_run cells)
+      now_all = all ∙ ap (λ (z : SourceKind). units_of z (own.bytes ++ placed_run cells)) (sym alike.kind)
 
-        stands_after : Stands new (longer reads r w)
-        stands_after = record {
-          front = front;
-          keeps =
-              record {
-                stands = subst (StandsOn new.machine) (sym now_all)
-                    (stands_units new.machine (own.bytes ++ placed_run cells) (p.list own.bytes stood));
-                reading = alike.own ∙ k.keeps.reading
-                    ∙ ap (λ (f : Bool → List Placed → Stream Packet). f r.now.hunts) (sym alike.any);
-                passed = subst (λ (f : Bool → List Placed → Stream Packet). ArePassed (f r.now.hunts) front)
-                    (sym alike.any) k.keeps.passed;
-                past_is = same_past ∙ k.keeps.past_is
-                    ∙ ap (λ (f : Bool → List Placed → Stream Packet). sum_by (lost_in f from_fault) r.past)
-                    (sym alike.any);
-                count_is = ap (λ n. n + length front) same_count ∙ k.keeps.count_is;
-              };
-          hunts = same_hunts ∙ k.hunts;
-          whole = record { bytes = own.bytes ++ placed_run cells; are = now_all };
-        }
+      stands_after : Stands new (longer reads r w)
+      stands_after = record {
+        front = front;
+        keeps =
+            record {
+              stands = subst (StandsOn new.machine) (sym now_all)
+                  (stands_units new.machine (own.bytes ++ placed_run cells) (p.list own.bytes stood));
+              reading = alike.own ∙ k.keeps.reading
+                  ∙ ap (λ (f : Bool → List Placed → Stream Packet). f r.now.hunts) (sym alike.any);
+              passed = subst (λ (f : Bool → List Placed → Stream Packet). ArePassed (f r.now.hunts) front)
+                  (sym alike.any) k.keeps.passed;
+              past_is = same_past ∙ k.keeps.past_is
+                  ∙ ap (λ (f : Bool → List Placed → Stream Packet). sum_by (lost_in f from_fault) r.past)
+                  (sym alike.any);
+              count_is = ap (λ n. n + length front) same_count ∙ k.keeps.count_is;
+            };
+        hunts = same_hunts ∙ k.hunts;
+        whole = record { bytes = own.bytes ++ placed_run cells; are = now_all };
+      }
 
-        pub list_after : Stands new (with_run old r cells)
-        list_after = subst (Stands new) (sym goes) stands_after
+      pub list_after : Stands new (with_run old r cells)
+      list_after = subst (Stands new) (sym goes) stands_after
 
-        pub given_after_all : (heard_by old (with_run old r cells)).given ≡ (heard_by old r).given ++ heard_in packets
-        given_after_all = ap (λ (s : Stretches). (heard_by old s).given) goes ∙ given_more reads r w packets none sound given
+      pub given_after_all : (heard_by old (with_run old r cells)).given ≡ (heard_by old r).given ++ heard_in packets
+      given_after_all = ap (λ (s : Stretches). (heard_by old s).given) goes ∙ given_more reads r w packets none sound given
 
-    pub takes_cells : (bytes : List ℕ) (half : ℕ) (item : Option Packet) →
-        PassesOver (machine.reading_of old.machine) (machine.Stands old.machine) (machine.Stands new.machine) bytes
-        (item_at half item) → TakesCells old new bytes (λ at. heard_in (ended half at item))
-    takes_cells bytes half item p = record {
-      list = λ r front last k e.
-          list_after (front ++ last ∷ []) (ended half last.at item) (passes_item half item bytes p front last e) r k;
-      given = λ r front last k e.
-          given_after_all (front ++ last ∷ []) (ended half last.at item) (passes_item half item bytes p front last e) r k;
-    }
+  pub takes_cells : (bytes : List ℕ) (half : ℕ) (item : Option Packet) →
+      PassesOver (machine.reading_of old.machine) (machine.Stands old.machine) (machine.Stands new.machine) bytes
+      (item_at half item) → TakesCells old new bytes (λ at. heard_in (ended half at item))
+  takes_cells bytes half item p = record {
+    list = λ r front last k e.
+        list_after (front ++ last ∷ []) (ended half last.at item) (passes_item half item bytes p front last e) r k;
+    given = λ r front last k e.
+        given_after_all (front ++ last ∷ []) (ended half last.at item) (passes_item half item bytes p front last e) r k;
+  }
 
 -- what it stood for it stands for, where nothing was taken
 pub stays : (old new : RecoveringSource) → new.past ≡ old.past → new.count ≡ old.count → new.hunts ≡ old.hunts →

@@ -1,20 +1,17 @@
 -- Units that a hunt passes over first: what a reading after them says of the reading without them.
-use Rattle.std.proofs.Common.{◌≡◌, ℕ, zero, suc, ◌+◌, ◌-◌, ◌*◌, ◌/◌, ◌%◌, ◌≤◌, ◌<◌, List, [], ◌∷◌, ◌++◌, length, refl}
-use Rattle.std.proofs.Common.{sym, ◌∙◌, ap, subst, arith, append_assoc, Option, None, Some, Bool, true, false, cond}
-use Rattle.std.specs.Prelude.{map, is_none, ◌==◌, ◌&&◌}
+use Rattle.std.proofs.Common.{◌≡◌, ℕ, zero, suc, ◌+◌, ◌-◌, ◌≤◌, List, [], ◌∷◌, ◌++◌, length, refl}
+use Rattle.std.proofs.Common.{sym, ◌∙◌, ap, arith, Option, None, Some, Bool, true, false, cond}
+use Rattle.std.specs.Prelude.{map, ◌==◌, ◌&&◌}
 use Rattle.std.specs.Option.{option_map}
 use Rattle.std.proofs.lemmas.Bool.Decides.{nat_tests}
 use Rattle.std.proofs.lemmas.List.{map-append}
-use Rattle.trace_values.specs.declared.fault.Reason.{Reason}
 use Rattle.trace_values.specs.declared.next.Next.{Next}
 use Rattle.trace_values.specs.declared.pattern.Pattern.{Pattern}
 use Rattle.trace_values.specs.declared.step.Step.{Step}
 use Rattle.trace_values.specs.declared.step.Step.TheVariants.{Quiet, Skipping, Item, Locked, Fault as Faulty}
 use Rattle.trace_values.specs.Decorated.{kept_if, decorate, decorated}
 use Rattle.trace_values.specs.Hunted.{Found, Hunt, begun, hunt, hunt_from, hunt_on, hunted, hunted_by, no_hunt, run_after}
-use Rattle.trace_values.specs.Nibbles.{low_of, high_of}
 use Rattle.trace_values.specs.Placed.{Place, Placed}
-use Rattle.trace_values.specs.Reading.{advance}
 use Rattle.trace_values.specs.Stream.{Said, Notice, Kept, Stream, Grows, HuntBy, fault_by, given_by, goes_on, kept}
 use Rattle.trace_values.specs.Walk.{by_unit}
 use Rattle.stp_grammar.specs.declared.packet.Order.{Order}
@@ -28,7 +25,7 @@ use Rattle.source_events.specs.declared.packet.Packet.{Packet}
 use Rattle.source_events.specs.declared.packet.Packet.TheVariants.{Stp as StpOf}
 use Rattle.source_events.specs.declared.plan.SourceKind.{SourceKind}
 use Rattle.source_events.specs.declared.plan.SourceKind.TheVariants.{Itm, Stp}
-use Rattle.source_events.specs.Packets.{given_as, said_as, stream_as}
+use Rattle.source_events.specs.Packets.{given_as, stream_as}
 use Rattle.source_machine.specs.Units.{before_on, taken_on}
 use Rattle.stretch_readings.specs.Steps.{raised}
 use Rattle.recovering_machines.specs.Units.{ArePassed, after_passed, later}
@@ -89,7 +86,7 @@ module _ {V : Type 0} (n : ℕ) where
       (let f : Kept v ≡ Notice (n + b) = ap (λ (x : Said V × Place). x.0) e in cc)
   same_said (Kept v, p) (Kept w, q) e = e
 
-  same_given : (xs ys : List (Said V × Place)) → map (later n) xs ≡ map (later n) ys → xs ≡ ys
+  pub same_given : (xs ys : List (Said V × Place)) → map (later n) xs ≡ map (later n) ys → xs ≡ ys
   same_given [] [] e = refl
   same_given [] (y ∷ ys) e = cc
   same_given (x ∷ xs) [] e = cc

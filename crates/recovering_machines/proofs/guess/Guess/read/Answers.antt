@@ -1,4 +1,4 @@
-use Rattle.std.proofs.Common.{◌∙◌, subst}
+use Rattle.std.proofs.Common.{subst}
 use Rattle.source_machine.specs.Units.{TakesUnits, reads_on}
 use Rattle.recovering_machines.specs.Guess.{read_on}
 use Rattle.recovering_machines.proofs.Bytes.{goes_of}

@@ -1,4 +1,4 @@
-use Rattle.std.proofs.Common.{◌∙◌, List, arith, subst, sym}
+use Rattle.std.proofs.Common.{List, arith, subst, sym}
 use Rattle.std.proofs.lemmas.List.{take_all}
 use Rattle.trace_values.specs.declared.cell.Cell.{Cell}
 use Rattle.recovering_machines.specs.Mapped.{TakesMapped}

@@ -1,4 +1,4 @@
-use Rattle.std.proofs.Common.{◌++◌, sym, ◌∙◌, subst}
+use Rattle.std.proofs.Common.{sym, ◌∙◌, subst}
 use Rattle.trace_values.specs.Placed.{placed_from}
 use Rattle.stretch_readings.specs.Stretches.{Stretches}
 use Rattle.recovering_machines.specs.Port.{Keeps, id_of}

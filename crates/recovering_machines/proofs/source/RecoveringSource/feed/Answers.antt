@@ -3,7 +3,7 @@ use Rattle.trace_values.specs.declared.step.Step.TheVariants.{Fault as Faulty}
 use Rattle.trace_values.specs.Placed.{Placed}
 use Rattle.trace_values.specs.Stream.{Grows}
 use Rattle.source_machine.specs.Units.{StandsOn, TakesUnits, kind_of as kind_on, units_at, units_from}
-use Rattle.stretch_readings.specs.Steps.{said_by, raised}
+use Rattle.stretch_readings.specs.Steps.{said_by}
 use Rattle.recovering_machines.specs.Source.{heard_by, reads_of, with_byte}
 use Rattle.recovering_machines.specs.Units.{AreWhole, BeginsHunt}
 use Rattle.recovering_machines.proofs.Bytes.{answer, keeps_falls, given_falls, keeps_goes, given_goes, goes_of, grows}
@@ -21,20 +21,20 @@ returns-in-Fault-clause-list c = λ r k.
     (c.feed_units.ensures.takes (k.front ++ r.now.units) k.keeps.stands) in
     let x = c.in-Fault.fault in
     let same = c.feed_units.ensures.kind in
-    let first = subst (λ kind. BeginsHunt kind x.half c.args.byte c.first_byte-self.result) same
-    c.first_byte-self.ensures in
-    let b = begins s.machine x.half c.args.at c.args.byte c.first_byte-self.result first in
-    let next = subst (λ kind. units_at kind c.args.at c.first_byte-self.result.byte
+    let first = subst (λ kind. BeginsHunt kind x.half c.args.byte c.first_byte-first.result) same
+    c.first_byte-first.ensures in
+    let b = begins s.machine x.half c.args.at c.args.byte c.first_byte-first.result first in
+    let next = subst (λ kind. units_at kind c.args.at c.first_byte-first.result.byte
     ≡ b.front ++ units_from (kind_on s.machine) x.half c.args.at c.args.byte) (sym same) b.units in
     record {
       front = b.front;
       keeps = keeps_falls s.machine e s.past s.count k.front r k.keeps s.live c.args.at c.args.byte
           c.feed_units.ensures.reads c.feed_units.ensures.mode x takes c.in-Fault.ensures.tells.0
-          z.result c.skipped.result c.saturating_sub.result b.front c.skipped.ensures
-          (let size = b.size in let held = c.held-self.ensures in let now = c.saturating_sub.ensures in
+          z.result c.skipped.result c.saturating_sub-self.result b.front c.skipped.ensures
+          (let size = b.size in let held = c.held.ensures in let now = c.saturating_sub-self.ensures in
           let few = held_falls s.machine e s.past s.count k.front r k.keeps s.live c.args.at c.args.byte
           c.feed_units.ensures.reads c.feed_units.ensures.mode x takes c.in-Fault.ensures.tells.0
-          c.first_byte-self.result first in omega (arith, size, held, now, few))
+          c.first_byte-first.result first in omega (arith, size, held, now, few))
           (z.ensures.reads ∙ c.feed_units.ensures.reads) z.ensures.mode b.passed
           (subst (StandsOn z.result) next z.ensures.list);
       hunts = sym (hunts_falls s.machine e s.past s.count k.front r k.keeps s.live c.args.at c.args.byte
