@@ -182,11 +182,8 @@ module _ {S V : Type 0} (Spells : V → List Placed → Type 0) (why : List Plac
     -- the whole, where it is read after a front of it
     record Goes (r : Reads h (u ++ (a ++ m))) : Type 0 where
       early : List (V × Place)
-      place : Place
-      last : Placed
-      ends : (start : List Placed) × (m ≡ start ++ last ∷ [])
-      at : place ≡ last.place
-      alone : prog m ≡ ended ((v, place) ∷ [])
+      front : List Placed
+      joined : syncing.IsJoined Spells why rule start p v k front m
       all : (z : List Placed) → prog (r.seen ++ z) ≡ with_before early (prog (m ++ z))
 
     within : (r : Reads h (u ++ (a ++ m))) (c : List Placed) → (prog r.seen).fault ≡ None → u ≡ r.front ++ c → Goes r
@@ -196,11 +193,8 @@ module _ {S V : Type 0} (Spells : V → List Placed → Type 0) (why : List Plac
         let j = syncing.joined Spells why rule start p v k (c ++ a) m pattern (ap (λ (l : List Placed). (prog l).fault) (sym s) ∙ sound) in
         record {
           early = j.early;
-          place = j.place;
-          last = j.last;
-          ends = j.ends;
-          at = j.at;
-          alone = j.alone;
+          front = c ++ a;
+          joined = j;
           all = λ z. ap (λ (l : List Placed). prog (l ++ z)) s ∙ ap prog (append_assoc (c ++ a) m z) ∙ syncing.joined_all Spells why rule start p v k (c ++ a) m j z;
         }
 
@@ -216,14 +210,10 @@ module _ {S V : Type 0} (Spells : V → List Placed → Type 0) (why : List Plac
         let lengths : length a ≡ length (g ∷ c) =
         (let n = units_length r.front in let o = units_length (u ++ a) in let i = ap length e in let j = length-append u (g ∷ c) in let q = length-append u a in omega arith) in
         let same = same_fronts a (g ∷ c) m r.seen lengths rest in
-        let j = alone_at m pattern in
         record {
           early = [];
-          place = j.place;
-          last = j.last;
-          ends = j.ends;
-          at = j.at;
-          alone = j.alone;
+          front = [];
+          joined = alone_at m pattern;
           all = λ z. ap (λ (l : List Placed). prog (l ++ z)) (sym same.1);
         }
       where
@@ -244,23 +234,24 @@ module _ {S V : Type 0} (Spells : V → List Placed → Type 0) (why : List Plac
           let at : Sound (at_found (length r.front) r.place (prog (r.seen ++ y))) =
           subst Sound (r.on y) (subst (λ (l : List Placed). Sound (found_in h l)) all sound) in
           let g = goes r (syncing.no_fault_before Spells why rule start p v k r.seen y at) in
+          let j = g.joined in
           record {
             before = a;
             sync = m;
             after = y;
-            early = g.early;
-            place = g.place;
-            last = g.last;
-            ends = g.ends;
-            at = g.at;
-            skipped = length r.front;
-            whole_place = r.place;
             parts = parts;
             pattern = pattern;
             first = first;
-            alone = g.alone;
+            early = g.early;
+            place = j.place;
+            last = j.last;
+            ends = j.ends;
+            at = j.at;
+            skipped = length r.front;
+            whole_place = r.place;
+            alone = j.alone;
             whole = λ z. ap (found_in h) (sym (append_assoc u (a ++ m) z)) ∙ r.on z ∙ ap (at_found (length r.front) r.place) (g.all z);
-            rest = rest_at g.place g.alone;
+            rest = rest_at j.place j.alone;
           }
     ]
 
