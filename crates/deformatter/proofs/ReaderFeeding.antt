@@ -74,9 +74,10 @@ module _ (a b : PortStream) (at : ℕ) (cells : List Cell) (given : cells_in b �
 pub framed_grows : (a b : PortStream) (at : ℕ) (step : PortStep) (cells : List Cell) → PortGrows a b at step → cells_in b ≡ cells_in a ++ cells →
     Grows (framed a) (framed b) at step cells
 framed_grows a b at step cells g given =
+    let k = gained a b at cells given step g.items in
     record {
-      frames = (gained a b at cells given step g.items).frames;
-      fit = (gained a b at cells given step g.items).fit;
+      frames = k.frames;
+      fit = k.fit;
       fulls = g.fulls;
       halves = g.halves;
       fault = g.fault;

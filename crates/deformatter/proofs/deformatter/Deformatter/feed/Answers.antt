@@ -23,19 +23,23 @@ hunts_in d e = ap (λ (p : Phase). mode_in p d.hunter d.skipped) e
 pub returns-then-push : goal.returns-then-push
 returns-then-push c =
     let d = c.args.self.now in
-    let a = c.args in
+    let m = mode_of d in
+    let run = run_of d.hunter in
+    let at = c.args.at in
+    let byte = c.args.byte in
+    let live = is_live d in
     let e = hunts_in d c.in-Hunting.is in
-    let f : (a.byte == 127 && run_of d.hunter == 3) ≡ true = sym c.push.ensures.ends ∙ c.if-push.true in
-    let long = long_enough (run_of d.hunter) d.skipped a.byte (sym (ap (λ (p : Phase). is_counted pattern (mode_in p d.hunter d.skipped)) c.in-Hunting.is) ∙ d.counted) f in
+    let f : (byte == 127 && run == 3) ≡ true = sym c.push.ensures.ends ∙ c.if-push.true in
+    let long = long_enough run d.skipped byte (sym (ap (λ (p : Phase). is_counted pattern (mode_in p d.hunter d.skipped)) c.in-Hunting.is) ∙ d.counted) f in
     record {
       same = search rules;
       list = λ u s. record {
-        reads = laws.locks-list pattern Full rule start (mode_of d) (run_of d.hunter) d.skipped (byte_at a.at a.byte) (is_live d) (state_of d) u e f s.reads;
-        id = λ l. s.id l ∙ locks-id (mode_of d) (run_of d.hunter) d.skipped u a.at a.byte (is_live d) (state_of d) e s.reads f
-            ∙ ap (λ (x : Mode). id_in (port_stream (hunts x) (u ++ byte_at a.at a.byte ∷ []))) e;
+        reads = laws.locks-list pattern Full rule start m run d.skipped (byte_at at byte) live (state_of d) u e f s.reads;
+        id = λ l. s.id l ∙ locks-id m run d.skipped u at byte live (state_of d) e s.reads f
+            ∙ ap (λ (x : Mode). id_in (port_stream (hunts x) (u ++ byte_at at byte ∷ []))) e;
       };
-      step = λ u s. locks-step (mode_of d) (run_of d.hunter) d.skipped u a.at a.byte (is_live d) (state_of d) e s.reads f long;
-      cells = λ u s. locks-cells (mode_of d) (run_of d.hunter) d.skipped u a.at a.byte (is_live d) (state_of d) e s.reads f a.out.now.items c.requires.out;
+      step = λ u s. locks-step m run d.skipped u at byte live (state_of d) e s.reads f long;
+      cells = λ u s. locks-cells m run d.skipped u at byte live (state_of d) e s.reads f c.args.out.now.items c.requires.out;
       live = search rules;
       few = search rules;
       each = search rules;
@@ -45,22 +49,26 @@ returns-then-push c =
 pub returns-else-push : goal.returns-else-push
 returns-else-push c =
     let d = c.args.self.now in
-    let a = c.args in
+    let m = mode_of d in
+    let run = run_of d.hunter in
+    let at = c.args.at in
+    let byte = c.args.byte in
+    let live = is_live d in
     let e = hunts_in d c.in-Hunting.is in
-    let f : (a.byte == 127 && run_of d.hunter == 3) ≡ false = sym c.push.ensures.ends ∙ c.if-push.false in
+    let f : (byte == 127 && run == 3) ≡ false = sym c.push.ensures.ends ∙ c.if-push.false in
     let now : mode_in d.phase c.push.new.self (d.skipped + 1) ≡ Hunting (run_of c.push.new.self) (d.skipped + 1) = ap (λ (p : Phase). mode_in p c.push.new.self (d.skipped + 1)) c.in-Hunting.is in
     record {
       same = search rules;
       list = λ u s. record {
-        reads = subst (λ (x : Mode). StandsIn pattern Full rule start x (is_live d) (state_of d) (u ++ byte_at a.at a.byte ∷ [])) (sym now)
-            (subst (λ (n : ℕ). StandsIn pattern Full rule start (Hunting n (d.skipped + 1)) (is_live d) (state_of d) (u ++ byte_at a.at a.byte ∷ [])) (sym c.push.ensures.run)
-            (laws.skips-list pattern Full rule start (mode_of d) (run_of d.hunter) d.skipped (byte_at a.at a.byte) (is_live d) (state_of d) u e f s.reads));
-        id = λ l. s.id l ∙ skips-id (mode_of d) (run_of d.hunter) d.skipped u a.at a.byte (is_live d) (state_of d) e s.reads f
-            ∙ ap (λ (x : Mode). id_in (port_stream (hunts x) (u ++ byte_at a.at a.byte ∷ []))) e
-            ∙ sym (ap (λ (x : Mode). id_in (port_stream (hunts x) (u ++ byte_at a.at a.byte ∷ []))) now);
+        reads = subst (λ (x : Mode). StandsIn pattern Full rule start x live (state_of d) (u ++ byte_at at byte ∷ [])) (sym now)
+            (subst (λ (n : ℕ). StandsIn pattern Full rule start (Hunting n (d.skipped + 1)) live (state_of d) (u ++ byte_at at byte ∷ [])) (sym c.push.ensures.run)
+            (laws.skips-list pattern Full rule start m run d.skipped (byte_at at byte) live (state_of d) u e f s.reads));
+        id = λ l. s.id l ∙ skips-id m run d.skipped u at byte live (state_of d) e s.reads f
+            ∙ ap (λ (x : Mode). id_in (port_stream (hunts x) (u ++ byte_at at byte ∷ []))) e
+            ∙ sym (ap (λ (x : Mode). id_in (port_stream (hunts x) (u ++ byte_at at byte ∷ []))) now);
       };
-      step = λ u s. skips-step (mode_of d) (run_of d.hunter) d.skipped u a.at a.byte (is_live d) (state_of d) e s.reads f;
-      cells = λ u s. skips-cells (mode_of d) (run_of d.hunter) d.skipped u a.at a.byte (is_live d) (state_of d) e s.reads f a.out.now.items c.requires.out;
+      step = λ u s. skips-step m run d.skipped u at byte live (state_of d) e s.reads f;
+      cells = λ u s. skips-cells m run d.skipped u at byte live (state_of d) e s.reads f c.args.out.now.items c.requires.out;
       live = search rules;
       few = search rules;
       each = search rules;

@@ -23,13 +23,6 @@ returns-then-complete-clause-none c =
     sym (waits w.every w.halves (later_of w []) w.frames w.pairs.items w.id w.held [] c.begin_frame.ensures.begun.1 c.begin_frame.ensures.begun.2)
     ∙ nothing w.every w.halves (later_of w []) w.frames w.id
 
-pub returns-else-complete-clause-none : goal.returns-else-complete-clause-none
-returns-else-complete-clause-none c =
-    let w = c.complete.new.self in
-    let none = c.complete.ensures.none c.if-complete.false [] in
-    sym (waits w.every w.halves (later_of w []) w.frames w.pairs.items w.id w.held [] none.2 c.complete.ensures.held)
-    ∙ nothing w.every w.halves (later_of w []) w.frames w.id
-
 pub returns-else-complete-clause-to_come : goal.returns-else-complete-clause-to_come
 returns-else-complete-clause-to_come c = λ t later.
     let w = c.complete.new.self in
@@ -44,6 +37,13 @@ returns-else-complete-clause-count c =
 pub returns-else-complete-clause-list : goal.returns-else-complete-clause-list
 returns-else-complete-clause-list c = λ every halves closed t so_far s.
     stands_flush c.args.self.now c.complete.new.self every halves closed c.complete.new.out.items so_far t (returns-else-complete-clause-to_come c) (returns-else-complete-clause-count c) s
+
+pub returns-else-complete-clause-none : goal.returns-else-complete-clause-none
+returns-else-complete-clause-none c =
+    let w = c.complete.new.self in
+    let none = c.complete.ensures.none c.if-complete.false [] in
+    sym (waits w.every w.halves (later_of w []) w.frames w.pairs.items w.id w.held [] none.2 c.complete.ensures.held)
+    ∙ nothing w.every w.halves (later_of w []) w.frames w.id
 
 pub returns-else-complete-clause-load : goal.returns-else-complete-clause-load
 returns-else-complete-clause-load c = let e = ap length (c.complete.ensures.none c.if-complete.false []).2 in omega arith
