@@ -1,12 +1,10 @@
-//! What the program's one call writes and answers, and what two libraries do, compared with what is computed apart from
-//! it. Calls with given words and bytes are rows of the programs `call_rows` and `library_rows`. A crate with tests of
-//! its own would be proved twice.
+//! What reads and writes bytes: sources and sinks, and the exercise's capture, where reads are cut and reads and writes
+//! fail. Calls with given words and bytes are rows of the programs `call_rows` and `library_rows`, and those whose answers
+//! have to be computed are rows of `scripts/cases`. A crate with tests of its own would be proved twice.
 #![tactic(auto)]
 
 #[cfg(test)]
-mod frame_tests;
-#[cfg(test)]
-mod run_tests;
+mod exercise_tests;
 #[cfg(test)]
 mod same;
 #[cfg(test)]

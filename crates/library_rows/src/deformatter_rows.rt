@@ -1,149 +1,90 @@
 //! Rows of `deformatter`.
 
-use crate::notation::{Words, put_cells};
+ghost use Rattle.std.specs.Prelude.{◌≡◌, ◌≤◌, ◌^◌, true};
+ghost use Rattle.deformatter.specs.Reader.{is_live, tail_of, skipped_by};
+
+use crate::notation::put_cells;
+use crate::out::Out;
 use arrayvec::ArrayVec;
 use deformatter::{PortReader, PortStep};
-use std::alloc::{AllocError, Global};
-use std::io::{self, Write};
+use std::alloc::Global;
 use trace_values::{Cell, FramesMode};
 
 /// More bytes than a row has.
 const MANY: usize = 1 << 20;
 
-/// What a port says: each answer but `Quiet`, with the offset of its byte, and all cells. After that, unless it ends in
-/// a fault, how many bytes are left over, and how many were skipped.
-#[derive(PartialEq, Drop)]
-struct Heard {
-    steps: Vec<(u64, PortStep)>,
-    cells: Vec<Cell>,
-    left: Option<(u64, u64)>,
+/// Whether the port takes another byte.
+fn is_ready(port: &PortReader) -> bool
+    ensures live { result ≡ true → is_live port.now ≡ true }
+    ensures tail { result ≡ true → tail_of port.now ≤ 2 ^ 20 }
+    ensures skipped { result ≡ true → skipped_by port.now ≤ 2 ^ 20 }
+{
+    port.is_live() && port.tail() <= MANY as u64 && port.skipped() <= MANY as u64
 }
 
-impl Heard {
-    fn new(alloc: Global) -> Heard {
-        Heard {
-            steps: Vec::new(alloc),
-            cells: Vec::new(alloc),
-            left: None,
-        }
-    }
-
-    fn add(&mut self, at: u64, step: PortStep, cells: &[Cell]) -> Result<(), AllocError> {
-        if step != PortStep::Quiet {
-            self.steps.push((at, step))?;
-        }
-        self.cells.extend_from_slice(cells)
-    }
-
-    /// Notes what the port has left over and skipped.
-    fn end(&mut self, port: &PortReader) {
-        if port.is_live() {
-            self.left = Some((port.tail(), port.skipped()));
-        }
-    }
-
-    /// Writes the lines of the answer.
-    fn tell<W: Write>(&self, out: &mut W) -> io::Result<()> {
-        for (at, step) in &self.steps {
-            write!(out, "  {at} {step:?}\n")?;
-        }
-        if !self.cells.is_empty() {
-            put_cells(&self.cells, out)?;
-        }
-        match self.left {
-            Some((tail, skipped)) => write!(out, "  tail {tail} skipped {skipped}\n"),
-            None => Ok(()),
-        }
-    }
-}
-
-/// What the bytes say one by one.
-fn by_bytes(alloc: Global, bytes: &[u8], mode: FramesMode) -> Result<Heard, AllocError> {
-    let mut port = PortReader::new(mode);
-    let mut heard = Heard::new(alloc);
-    for (at, byte) in bytes.iter().enumerate() {
-        if !port.is_live() {
-            break;
-        }
-        if port.tail() >= MANY as u64 || port.skipped() >= MANY as u64 {
-            break;
-        }
-        let mut out = ArrayVec::new();
-        let step = port.feed(at as u64, *byte, &mut out);
-        heard.add(at as u64, step, out.as_slice())?;
-    }
-    heard.end(&port);
-    Ok(heard)
-}
-
-/// Feeds a piece, the first byte of which is at this offset, and notes what it says.
-fn feed_piece(
+/// Feeds a piece, the first byte of which is at this offset, byte by byte or as many at once as the port takes. Writes
+/// the line of each answer but `Quiet`, with the offset of its byte, and appends the cells.
+fn feed(
     port: &mut PortReader,
-    from: usize,
-    piece: &[u8],
-    heard: &mut Heard,
-) -> Result<(), AllocError> {
+    (from, piece, at_once): (usize, &[u8], bool),
+    lines: &mut Out,
+    cells: &mut Vec<Cell>,
+) {
     let mut used = 0usize;
-    for _block in 0..piece.len() {
-        if used >= piece.len() || from >= MANY || piece.len() >= MANY {
+    for _ in 0..piece.len() {
+        if used >= piece.len() || from >= MANY || piece.len() >= MANY || !is_ready(port) {
             break;
         }
-        if !port.is_live() {
-            break;
+        let mut given = ArrayVec::new();
+        let at = (from + used) as u64;
+        let (count, step) = if at_once {
+            let taken = port.feed_block(at, &piece[used..], &mut given);
+            (taken.bytes, taken.step)
+        } else {
+            (1, port.feed(at, piece[used], &mut given))
+        };
+        used += count;
+        if step != PortStep::Quiet {
+            lines.values(&(from + used - 1), &step);
         }
-        if port.tail() >= MANY as u64 || port.skipped() >= MANY as u64 {
-            break;
-        }
-        let mut out = ArrayVec::new();
-        let taken = port.feed_block((from + used) as u64, &piece[used..], &mut out);
-        used += taken.bytes;
-        heard.add((from + used - 1) as u64, taken.step, out.as_slice())?;
+        lines.note(cells.extend_from_slice(given.as_slice()));
     }
-    Ok(())
 }
 
-/// What the bytes say in two pieces.
-fn by_pieces(
-    alloc: Global,
-    bytes: &[u8],
-    cut: usize,
-    mode: FramesMode,
-) -> Result<Heard, AllocError> {
+/// What the bytes say in two pieces: the answers, all cells, and, but after a fault, how many bytes are left over and
+/// were skipped.
+fn heard(alloc: Global, mode: FramesMode, (front, rest): (&[u8], &[u8]), at_once: bool) -> Out {
     let mut port = PortReader::new(mode);
-    let mut heard = Heard::new(alloc);
-    if let Some((front, rest)) = bytes.split_at_checked(cut) {
-        feed_piece(&mut port, 0, front, &mut heard)?;
-        feed_piece(&mut port, cut, rest, &mut heard)?;
+    let mut lines = Out::new(alloc);
+    let mut cells = Vec::new(alloc);
+    feed(&mut port, (0, front, at_once), &mut lines, &mut cells);
+    feed(
+        &mut port,
+        (front.len(), rest, at_once),
+        &mut lines,
+        &mut cells,
+    );
+    if !cells.is_empty() {
+        put_cells(&cells, &mut lines);
     }
-    heard.end(&port);
-    Ok(heard)
+    if port.is_live() {
+        lines
+            .put(" ")
+            .put_named("tail", &port.tail())
+            .put_named("skipped", &port.skipped())
+            .put("\n");
+    }
+    lines
 }
 
 /// `aligned BYTES`, `hunting BYTES`, `bare BYTES`: what the bytes say one by one. In two pieces, with each cut, they
 /// must say the same.
-fn hear<W: Write>(
-    alloc: Global,
-    mode: FramesMode,
-    words: &mut Words<'_>,
-    out: &mut W,
-) -> io::Result<()> {
-    let bytes = words.bytes(alloc)?;
-    let heard = by_bytes(alloc, &bytes, mode)?;
-    heard.tell(out)?;
+pub fn hear(mode: FramesMode, bytes: &[u8], out: &mut Out) {
+    let told = heard(out.alloc, mode, (bytes, b""), false);
+    out.append(&told);
     for cut in 0..bytes.len() {
-        if by_pieces(alloc, &bytes, cut, mode)? != heard {
-            write!(out, "  ? cut at {cut}\n")?;
+        if heard(out.alloc, mode, (&bytes[..cut], &bytes[cut..]), true).text() != told.text() {
+            out.line("? another cut");
         }
-    }
-    Ok(())
-}
-
-/// Runs a row.
-pub fn run<W: Write>(alloc: Global, words: &mut Words<'_>, out: &mut W) -> io::Result<()> {
-    match words.word() {
-        "aligned" => hear(alloc, FramesMode::Aligned, words, out),
-        "bare" => hear(alloc, FramesMode::Bare, words, out),
-        "hunting" => hear(alloc, FramesMode::Hunt, words, out),
-        _ => out.write_all(b"  ? no such call\n"),
     }
 }

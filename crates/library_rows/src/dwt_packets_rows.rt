@@ -2,24 +2,23 @@
 
 use crate::itm_grammar_rows::size_of;
 use crate::notation::Words;
+use crate::out::Out;
 use dwt_packets::{Change, DwtItem, is_proper_item, meaning, packet_of};
 use itm_grammar::packet::ItmPacket;
 use itm_grammar::proper::is_proper;
-use std::io::{self, Write};
 
 /// `meaning DISCRIMINATOR SIZE VALUE`: what the packet means, and the packet of that.
-fn packet<W: Write>(words: &mut Words<'_>, out: &mut W) -> io::Result<()> {
+pub fn packet(mut words: Words<'_>, out: &mut Out) {
     let (disc, size, value) = (words.byte(), size_of(words.word()), words.quarter());
     if !is_proper(&ItmPacket::Hardware { disc, size, value }) {
-        return out.write_all(b"  ? no packet\n");
+        return out.line("? no packet");
     }
     let item = meaning(disc, size, value);
-    write!(out, "  {item:?}\n")?;
+    out.value(&item);
     if !is_proper_item(&item) {
-        return out.write_all(b"  ? no item\n");
+        return out.line("? no item");
     }
-    let back = packet_of(&item);
-    write!(out, "  {back:?}\n")
+    out.value(&packet_of(&item));
 }
 
 fn change_of(word: &str) -> Change {
@@ -32,54 +31,43 @@ fn change_of(word: &str) -> Change {
 
 /// An item: `counters BITS`, `exception NUMBER CHANGE`, `pc COMPARATOR PC`, `address COMPARATOR LOW`,
 /// `read COMPARATOR SIZE VALUE`, `write COMPARATOR SIZE VALUE`, `other DISCRIMINATOR SIZE VALUE`.
-fn item_of(words: &mut Words<'_>) -> DwtItem {
-    let kind = words.word();
-    let first = words.half();
-    let low = (first % 0x100) as u8;
+fn item_of(mut words: Words<'_>) -> DwtItem {
+    let (kind, number, word, value) = (words.word(), words.half(), words.word(), words.quarter());
+    let (low, size) = ((number % 0x100) as u8, size_of(word));
     match kind {
         "counters" => DwtItem::Counters(low),
         "exception" => DwtItem::Exception {
-            number: first,
-            change: change_of(words.word()),
+            number,
+            change: change_of(word),
         },
         "pc" => DwtItem::MatchPc {
             comparator: low,
-            pc: words.quarter(),
+            pc: Words { rest: word }.quarter(),
         },
         "address" => DwtItem::MatchAddress {
             comparator: low,
-            low: words.half(),
+            low: Words { rest: word }.half(),
         },
         "read" => DwtItem::Read {
             comparator: low,
-            size: size_of(words.word()),
-            value: words.quarter(),
+            size,
+            value,
         },
         "write" => DwtItem::Written {
             comparator: low,
-            size: size_of(words.word()),
-            value: words.quarter(),
+            size,
+            value,
         },
         _ => DwtItem::Other {
             disc: low,
-            size: size_of(words.word()),
-            value: words.quarter(),
+            size,
+            value,
         },
     }
 }
 
 /// `is_proper_item ITEM`: the item, and whether some packet means it.
-fn proper<W: Write>(words: &mut Words<'_>, out: &mut W) -> io::Result<()> {
+pub fn proper(words: Words<'_>, out: &mut Out) {
     let item = item_of(words);
-    let proper = is_proper_item(&item);
-    write!(out, "  {item:?} {proper}\n")
-}
-
-/// Runs a row.
-pub fn run<W: Write>(words: &mut Words<'_>, out: &mut W) -> io::Result<()> {
-    match words.word() {
-        "meaning" => packet(words, out),
-        "is_proper_item" => proper(words, out),
-        _ => out.write_all(b"  ? no such call\n"),
-    }
+    out.values(&item, &is_proper_item(&item));
 }

@@ -1,12 +1,11 @@
 //! Rows of `itm_grammar`.
 
 use crate::notation::Words;
+use crate::out::Out;
 use itm_grammar::packet::{ItmPacket, Lateness, Size};
 use itm_grammar::partial::Partial;
 use itm_grammar::proper::is_proper;
 use itm_grammar::shortest::shortest_len;
-use std::alloc::Global;
-use std::io::{self, Write};
 use trace_values::{COUNT_ROOM, Next};
 
 /// The size `u8`, `u16` or `u32`.
@@ -30,7 +29,7 @@ fn lateness_of(word: &str) -> Lateness {
 
 /// A packet: `sync`, `overflow`, `software PORT SIZE VALUE`, `local LATENESS DELTA`, `first LENGTH VALUE CHANGE WRAP`,
 /// where a flag is 0 or 1, and `extension itm VALUE` or `extension dwt VALUE`.
-fn packet_of(words: &mut Words<'_>) -> ItmPacket {
+fn packet_of(mut words: Words<'_>) -> ItmPacket {
     match words.word() {
         "sync" => ItmPacket::Sync,
         "overflow" => ItmPacket::Overflow,
@@ -57,20 +56,19 @@ fn packet_of(words: &mut Words<'_>) -> ItmPacket {
 }
 
 /// `shortest_len PACKET`: the packet, and how many bytes its shortest spelling has.
-fn shortest<W: Write>(words: &mut Words<'_>, out: &mut W) -> io::Result<()> {
+pub fn shortest(words: Words<'_>, out: &mut Out) {
     let packet = packet_of(words);
-    write!(out, "  {packet:?}\n")?;
+    out.value(&packet);
     if is_proper(&packet) {
-        let len = shortest_len(&packet);
-        write!(out, "  {len}\n")
+        out.value(&shortest_len(&packet));
     } else {
-        out.write_all(b"  no packet\n")
+        out.line("no packet");
     }
 }
 
 /// `with_byte BYTES`: the packets that the bytes are, each with the index of its last byte, and how many bytes are left
 /// over, or the index of the first that breaks and why.
-fn packets<W: Write>(bytes: &[u8], out: &mut W) -> io::Result<()> {
+pub fn packets(bytes: &[u8], out: &mut Out) {
     let mut partial = Partial::Header;
     for at in 0..bytes.len() {
         if partial.len() > COUNT_ROOM {
@@ -79,21 +77,11 @@ fn packets<W: Write>(bytes: &[u8], out: &mut W) -> io::Result<()> {
         match partial.with_byte(bytes[at]) {
             Next::Go(next) => partial = next,
             Next::End(packet) => {
-                write!(out, "  {at} {packet:?}\n")?;
+                out.values(&at, &packet);
                 partial = Partial::Header;
             }
-            Next::Fail(reason) => return write!(out, "  {at} {reason:?}\n"),
+            Next::Fail(reason) => return out.values(&at, &reason),
         }
     }
-    let left = partial.len();
-    write!(out, "  left {left}\n")
-}
-
-/// Runs a row.
-pub fn run<W: Write>(alloc: Global, words: &mut Words<'_>, out: &mut W) -> io::Result<()> {
-    match words.word() {
-        "shortest_len" => shortest(words, out),
-        "with_byte" => packets(&words.bytes(alloc)?, out),
-        _ => out.write_all(b"  ? no such call\n"),
-    }
+    out.put(" ").put_named("left", &partial.len()).put("\n");
 }

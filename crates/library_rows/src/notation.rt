@@ -1,44 +1,15 @@
-//! How numbers and bytes are written in a row, and in an answer.
+//! How numbers and bytes are written in a row, and sources and cells in an answer.
 
-use std::alloc::{AllocError, Global};
-use std::io::{self, Write};
+use crate::out::Out;
 use trace_values::{Cell, SourceId};
 
 /// The words of a row that are still to be read.
-#[derive(Drop)]
+#[derive(Clone, Copy)]
 pub struct Words<'a> {
-    rest: &'a str,
-}
-
-/// The value of a hexadecimal digit, 0 of any other byte.
-fn value_of(digit: u8) -> u8 {
-    match digit {
-        b'0'..=b'9' => digit - b'0',
-        b'a'..=b'f' => digit - b'a' + 10,
-        _ => 0,
-    }
-}
-
-/// The number of these hexadecimal digits, of at most 64 bits.
-fn hexadecimal(digits: &str) -> u64 {
-    let mut number = 0u64;
-    for &digit in digits.as_bytes() {
-        number = number.wrapping_mul(16) | u64::from(value_of(digit));
-    }
-    number
+    pub rest: &'a str,
 }
 
 impl<'a> Words<'a> {
-    /// Those of this text.
-    pub fn new(text: &'a str) -> Words<'a> {
-        Words { rest: text }
-    }
-
-    /// All that is still to be read.
-    pub fn rest(&self) -> &'a str {
-        self.rest
-    }
-
     /// The next word; an empty one after the last.
     pub fn word(&mut self) -> &'a str {
         let (word, rest) = self.rest.split_once(' ').unwrap_or((self.rest, ""));
@@ -50,7 +21,7 @@ impl<'a> Words<'a> {
     pub fn optional(&mut self) -> Option<u64> {
         let word = self.word();
         match word.strip_prefix('x') {
-            Some(digits) => Some(hexadecimal(digits)),
+            Some(digits) => u64::from_str_radix(digits, 16).ok(),
             None => word.parse::<u64>().ok(),
         }
     }
@@ -84,55 +55,38 @@ impl<'a> Words<'a> {
     }
 
     /// The bytes of all words that are left: hexadecimal digits, or `HH..*N`, which is N times these bytes.
-    pub fn bytes(&mut self, alloc: Global) -> Result<Vec<u8>, AllocError> {
-        let mut bytes = Vec::new(alloc);
+    pub fn bytes(self, out: &mut Out) -> Vec<u8> {
+        let mut bytes = Vec::new(out.alloc);
         for word in self.rest.split(' ') {
             let (digits, times) = word.split_once('*').unwrap_or((word, "1"));
-            for _ in 0..times.parse::<usize>().unwrap_or(0) {
-                add_digits(alloc, digits, &mut bytes)?;
+            if let Ok(decoded) = hex::decode(out.alloc, digits) {
+                for _ in 0..times.parse::<usize>().unwrap_or(0) {
+                    out.note(bytes.extend_from_slice(&decoded));
+                }
             }
         }
-        self.rest = "";
-        Ok(bytes)
+        bytes
     }
-}
-
-/// Adds the bytes of these digits; none where they are no bytes.
-fn add_digits(alloc: Global, digits: &str, bytes: &mut Vec<u8>) -> Result<(), AllocError> {
-    match hex::decode(alloc, digits) {
-        Ok(decoded) => bytes.extend_from_slice(&decoded),
-        Err(_) => Ok(()),
-    }
-}
-
-/// Writes the line of an answer that has bytes, after this word.
-pub fn put_bytes<W: Write>(alloc: Global, word: &str, bytes: &[u8], out: &mut W) -> io::Result<()> {
-    if bytes.is_empty() {
-        return write!(out, "  {word} none\n");
-    }
-    let digits = hex::encode(alloc, bytes)?;
-    write!(out, "  {word} {digits}\n")
 }
 
 /// Writes the number of a source, or `-`.
-pub fn put_source<W: Write>(source: Option<SourceId>, out: &mut W) -> io::Result<()> {
+pub fn put_source(source: Option<SourceId>, out: &mut Out) {
     match source {
-        Some(source) => {
-            let number = source.number();
-            write!(out, "{number}")
-        }
-        None => out.write_all(b"-"),
-    }
+        Some(source) => out.put_value(&source.number()),
+        None => out.put("-"),
+    };
 }
 
 /// Writes the line of cells: the offset of each, its source, its run, and its byte.
-pub fn put_cells<W: Write>(cells: &[Cell], out: &mut W) -> io::Result<()> {
-    out.write_all(b"  cells")?;
+pub fn put_cells(cells: &[Cell], out: &mut Out) {
+    out.put("  cells");
     for cell in cells {
-        let (at, run, byte) = (cell.at, cell.run, cell.byte);
-        write!(out, " {at}:")?;
-        put_source(cell.id, out)?;
-        write!(out, ":{run}:{byte:02x}")?;
+        out.put(" ").put_value(&cell.at).put(":");
+        put_source(cell.id, out);
+        out.put(":")
+            .put_value(&cell.run)
+            .put(":")
+            .put_byte(cell.byte);
     }
-    out.write_all(b"\n")
+    out.put("\n");
 }

@@ -5,13 +5,12 @@ ghost use Rattle.frame_grammar.specs.Frame.{IsProperFrame};
 ghost use Rattle.source_counts.specs.Kept.{total_of};
 ghost use Rattle.trace_values.specs.declared.limits.TheConstants.{COUNT_ROOM};
 
-use crate::notation::Words;
+use crate::out::Out;
 use arrayvec::ArrayVec;
 use frame_grammar::frame::{FRAME_BYTES, cells_of};
 use frame_grammar::plain::plain_frame;
 use source_counts::{Counts, SourceCounts};
 use std::alloc::Global;
-use std::io::{self, Write};
 use trace_values::SourceId;
 
 /// More frames than a row has.
@@ -33,33 +32,28 @@ fn add_cells(
     after
 }
 
-/// Writes the counts by bytes, of each source that has any; the counts by cells must be the same.
-fn put_counts<W: Write>(
-    by_bytes: &SourceCounts,
-    by_cells: &SourceCounts,
-    out: &mut W,
-) -> io::Result<()> {
-    let (frames, unattributed) = (by_bytes.frames(), by_bytes.unattributed());
-    write!(out, "  frames {frames} unattributed {unattributed}\n")?;
-    if by_cells.frames() != frames || by_cells.unattributed() != unattributed {
-        out.write_all(b"  ? cells\n")?;
-    }
+/// The lines of these counts: of all, and of each source that has any.
+fn told(alloc: Global, counts: &SourceCounts) -> Out {
+    let mut out = Out::new(alloc);
+    out.put(" ")
+        .put_named("frames", &counts.frames())
+        .put_named("unattributed", &counts.unattributed())
+        .put("\n");
     for number in 0..127u8 {
-        let source = SourceId::new(number).unwrap_or_default();
-        let counts = by_bytes.of(source);
+        let counts = counts.of(SourceId::new(number).unwrap_or_default());
         if counts != (Counts { bytes: 0, items: 0 }) {
-            let (bytes, items) = (counts.bytes, counts.items);
-            write!(out, "  source {number} bytes {bytes} items {items}\n")?;
-        }
-        if by_cells.of(source) != counts {
-            write!(out, "  ? cells of {number}\n")?;
+            out.put(" ")
+                .put_named("source", &number)
+                .put_named("bytes", &counts.bytes)
+                .put_named("items", &counts.items)
+                .put("\n");
         }
     }
-    Ok(())
+    out
 }
 
 /// `frames BYTES`: what is counted of these frames by their bytes. By their cells it must be the same.
-fn frames<W: Write>(bytes: &[u8], out: &mut W) -> io::Result<()> {
+pub fn frames(bytes: &[u8], out: &mut Out) {
     let mut by_bytes = SourceCounts::new();
     let mut by_cells = SourceCounts::new();
     let mut id = None;
@@ -73,16 +67,12 @@ fn frames<W: Write>(bytes: &[u8], out: &mut W) -> io::Result<()> {
         let after = by_bytes.add_frame_bytes(frame, id);
         id = add_cells(&mut by_cells, frame, id);
         if after != id {
-            write!(out, "  ? the ID after {index}\n")?;
+            out.line("? another ID");
         }
     }
-    put_counts(&by_bytes, &by_cells, out)
-}
-
-/// Runs a row.
-pub fn run<W: Write>(alloc: Global, words: &mut Words<'_>, out: &mut W) -> io::Result<()> {
-    match words.word() {
-        "frames" => frames(&words.bytes(alloc)?, out),
-        _ => out.write_all(b"  ? no such call\n"),
+    let told_by_bytes = told(out.alloc, &by_bytes);
+    out.append(&told_by_bytes);
+    if told(out.alloc, &by_cells).text() != told_by_bytes.text() {
+        out.line("? cells");
     }
 }

@@ -1,9 +1,7 @@
 //! Rows of `stp_codec`.
 
-use crate::notation::Words;
-use crate::stp_words::order_of;
-use std::alloc::{AllocError, Global};
-use std::io::{self, Write};
+use crate::out::Out;
+use std::alloc::Global;
 use stp_codec::{StpDecoder, WINDOW};
 use stp_grammar::item::StpItem;
 use stp_grammar::packet::Order;
@@ -15,24 +13,11 @@ const MANY: usize = 5000;
 /// The sizes of the pieces that a row is cut into.
 const SIZES: [usize; 6] = [1, 2, 3, 5, 8, MANY];
 
-/// A decoder's answers, each with the offset of its byte, without those that say nothing.
-#[derive(PartialEq, Drop)]
-struct Told {
-    steps: Vec<(u64, Step<StpItem>)>,
-}
-
-impl Told {
-    fn new(alloc: Global) -> Told {
-        Told {
-            steps: Vec::new(alloc),
-        }
-    }
-
-    fn add(&mut self, at: usize, step: Step<StpItem>) -> Result<(), AllocError> {
-        match step {
-            Step::Quiet | Step::Skipping => Ok(()),
-            _ => Ok(self.steps.push((at as u64, step))?),
-        }
+/// Writes the line of a decoder's answer, with the offset of its byte, if it says something.
+fn put_step(at: usize, step: Step<StpItem>, out: &mut Out) {
+    match step {
+        Step::Quiet | Step::Skipping => {}
+        _ => out.values(&at, &step),
     }
 }
 
@@ -50,15 +35,6 @@ fn feed_byte(decoder: &mut StpDecoder, at: usize, byte: u8) -> Step<StpItem> {
         return Step::Quiet;
     }
     decoder.feed(at as u64, byte)
-}
-
-/// What the decoder says of the bytes one by one.
-fn by_bytes(alloc: Global, decoder: &mut StpDecoder, bytes: &[u8]) -> Result<Told, AllocError> {
-    let mut told = Told::new(alloc);
-    for (at, byte) in bytes.iter().enumerate() {
-        told.add(at, feed_byte(decoder, at, *byte))?;
-    }
-    Ok(told)
 }
 
 /// Takes the first `count` of these bytes by what `find_part` finds that they are, and where that is unknown by
@@ -127,64 +103,54 @@ fn take_some(
     }
 }
 
-/// What a decoder says of the bytes in pieces of this size, where the part of a packet that a piece has is taken at
+/// What a decoder says of the bytes, how many nibbles it holds and skipped, and whether its reading has begun. Each byte
+/// is fed alone, or in pieces of this size before this byte, where the part of a packet that a piece has is taken at
 /// once.
-fn by_pieces(
-    alloc: Global,
-    mut decoder: StpDecoder,
-    bytes: &[u8],
-    size: usize,
-    behind: u8,
-) -> Result<Told, AllocError> {
-    let mut told = Told::new(alloc);
-    let mut ahead = vec![in alloc; behind; MANY + WINDOW]?;
+fn told(alloc: Global, mut decoder: StpDecoder, bytes: &[u8], pieces: Option<(usize, u8)>) -> Out {
+    let mut out = Out::new(alloc);
+    let (size, behind) = pieces.unwrap_or((1, 0));
+    let mut ahead = [behind; MANY + WINDOW];
     let mut at = 0usize;
-    if size == 0 {
-        return Ok(told);
-    }
-    for piece in bytes.chunks(size) {
+    for piece in bytes.chunks(size.max(1)) {
         let mut used = 0usize;
         for _ in 0..piece.len() {
             if used >= piece.len() {
                 break;
             }
-            let (count, step) = take_some(&mut decoder, at, &piece[used..], &mut ahead);
+            let (count, step) = if pieces.is_some() {
+                take_some(&mut decoder, at, &piece[used..], &mut ahead)
+            } else {
+                (1, feed_byte(&mut decoder, at, piece[used]))
+            };
             used = used.saturating_add(count);
             at = at.saturating_add(count);
-            told.add(at.saturating_sub(1), step)?;
+            put_step(at.saturating_sub(1), step, &mut out);
         }
     }
-    Ok(told)
+    put_end(&decoder, &mut out);
+    out
 }
 
-/// `feed ORDER MODE BYTES`, where the mode is `hunting` or `aligned`: what the bytes say one by one, how many nibbles
-/// are held and were skipped, and whether the reading has begun. In pieces of each size they must say the same.
-fn feed<W: Write>(alloc: Global, words: &mut Words<'_>, out: &mut W) -> io::Result<()> {
-    let order = order_of(words.word());
-    let hunts = words.word() == "hunting";
-    let bytes = words.bytes(alloc)?;
-    let mut decoder = decoder_of(order, hunts);
-    let told = by_bytes(alloc, &mut decoder, &bytes)?;
-    for (at, step) in &told.steps {
-        write!(out, "  {at} {step:?}\n")?;
-    }
-    let (held, skipped) = (decoder.held(), decoder.skipped());
-    let locked = decoder.is_locked();
-    write!(out, "  held {held} skipped {skipped} locked {locked}\n")?;
-    for &size in &SIZES {
+/// Writes how many nibbles a decoder holds and skipped, and whether its reading has begun.
+fn put_end(decoder: &StpDecoder, out: &mut Out) {
+    out.put(" ")
+        .put_named("held", &decoder.held())
+        .put_named("skipped", &decoder.skipped())
+        .put_named("locked", &decoder.is_locked())
+        .put("\n");
+}
+
+/// `feed ORDER MODE BYTES`, where the mode is `hunting` or `aligned`: what the bytes say one by one, and what is held at
+/// the end. In pieces of each size they must say the same.
+pub fn feed(order: Order, hunts: bool, bytes: &[u8], out: &mut Out) {
+    let alone = told(out.alloc, decoder_of(order, hunts), bytes, None);
+    out.append(&alone);
+    for size in SIZES {
         for behind in [0x00, 0xff] {
-            if by_pieces(alloc, decoder_of(order, hunts), &bytes, size, behind)? != told {
-                write!(out, "  ? pieces of {size} before {behind:02x}\n")?;
+            let pieces = Some((size, behind));
+            if told(out.alloc, decoder_of(order, hunts), bytes, pieces).text() != alone.text() {
+                out.line("? other pieces");
             }
         }
-    }
-    Ok(())
-}
-
-/// Runs a row.
-pub fn run<W: Write>(alloc: Global, words: &mut Words<'_>, out: &mut W) -> io::Result<()> {
-    match words.word() {
-        "feed" => feed(alloc, words, out),
-        _ => out.write_all(b"  ? no such call\n"),
     }
 }

@@ -1,8 +1,8 @@
 //! Rows of `stp_grammar`.
 
 use crate::notation::Words;
-use crate::stp_words::{item_of, order_of, packet_of};
-use std::io::{self, Write};
+use crate::out::Out;
+use crate::stp_words::{item_of, packet_of};
 use stp_grammar::attribution::Attribution;
 use stp_grammar::packet::Order;
 use stp_grammar::partial::Partial;
@@ -10,71 +10,43 @@ use stp_grammar::proper::{is_proper, is_proper_stp};
 use trace_values::Next;
 
 /// `is_proper PACKET`: the packet, and whether its numbers are in their ranges.
-fn proper_packet<W: Write>(words: &mut Words<'_>, out: &mut W) -> io::Result<()> {
+pub fn proper_packet(words: Words<'_>, out: &mut Out) {
     let packet = packet_of(words);
-    let proper = is_proper(&packet);
-    write!(out, "  {packet:?} {proper}\n")
+    out.values(&packet, &is_proper(&packet));
 }
 
 /// `is_proper_stp ITEM`: the item, and whether its numbers are in their ranges.
-fn proper_item<W: Write>(words: &mut Words<'_>, out: &mut W) -> io::Result<()> {
+pub fn proper_item(words: Words<'_>, out: &mut Out) {
     let item = item_of(words);
-    let proper = is_proper_stp(&item);
-    write!(out, "  {item:?} {proper}\n")
+    out.values(&item, &is_proper_stp(&item));
 }
 
 /// `take PACKET,PACKET..`: the item of each packet after those before it, if it has one.
-fn items<W: Write>(words: &mut Words<'_>, out: &mut W) -> io::Result<()> {
+pub fn items(words: Words<'_>, out: &mut Out) {
     let mut attribution = Attribution::new();
-    for text in words.rest().split(',') {
-        let packet = packet_of(&mut Words::new(text));
+    for text in words.rest.split(',') {
+        let packet = packet_of(Words { rest: text });
         if !is_proper(&packet) {
-            return out.write_all(b"  ? no packet\n");
+            return out.line("? no packet");
         }
-        match attribution.take(packet) {
-            Some(item) => write!(out, "  {item:?}\n")?,
-            None => out.write_all(b"  none\n")?,
-        }
-    }
-    Ok(())
-}
-
-/// The number of the digit 0 to 9 or A to F.
-fn digit(code: u8) -> u8 {
-    if code < b'A' {
-        code % 16
-    } else {
-        (code % 16 + 9) % 16
+        out.optional(&attribution.take(packet));
     }
 }
 
 /// `with_nibble ORDER DIGITS`: what the nibble that ends a packet says, and its index, or how many nibbles are left.
-fn nibbles<W: Write>(order: Order, digits: &[u8], out: &mut W) -> io::Result<()> {
+pub fn nibbles(order: Order, digits: &[u8], out: &mut Out) {
     let mut partial = Partial::Start;
     for at in 0..digits.len() {
         if at > 1000 || partial.len() != at as u64 {
-            return out.write_all(b"  ? nibbles\n");
+            return out.line("? nibbles");
         }
-        match partial.with_nibble(order, digit(digits[at]) % 16) {
+        // a digit 0 to 9 or A to F
+        let nibble = (digits[at] % 16 + digits[at] / 64 * 9) % 16;
+        match partial.with_nibble(order, nibble) {
             Next::Go(next) => partial = next,
-            Next::End(packet) => return write!(out, "  {at} {packet:?}\n"),
-            Next::Fail(reason) => return write!(out, "  {at} {reason:?}\n"),
+            Next::End(packet) => return out.values(&at, &packet),
+            Next::Fail(reason) => return out.values(&at, &reason),
         }
     }
-    let left = partial.len();
-    write!(out, "  left {left}\n")
-}
-
-/// Runs a row.
-pub fn run<W: Write>(words: &mut Words<'_>, out: &mut W) -> io::Result<()> {
-    match words.word() {
-        "is_proper" => proper_packet(words, out),
-        "is_proper_stp" => proper_item(words, out),
-        "take" => items(words, out),
-        "with_nibble" => {
-            let order = order_of(words.word());
-            nibbles(order, words.word().as_bytes(), out)
-        }
-        _ => out.write_all(b"  ? no such call\n"),
-    }
+    out.put(" ").put_named("left", &partial.len()).put("\n");
 }

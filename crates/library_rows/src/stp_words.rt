@@ -12,24 +12,17 @@ pub fn order_of(word: &str) -> Order {
     }
 }
 
-/// The width of `d4`, `d8`, `d16`, `d32` or `d64`.
-fn width_of(word: &str) -> Option<Width> {
-    match word {
-        "d4" => Some(Width::Four),
-        "d8" => Some(Width::Eight),
-        "d16" => Some(Width::Sixteen),
-        "d32" => Some(Width::ThirtyTwo),
-        "d64" => Some(Width::SixtyFour),
-        _ => None,
-    }
-}
-
-/// The width of a datum, and whether it is marked: then an `m` is after the width.
+/// The width of a datum `d4`, `d8`, `d16`, `d32` or `d64`, and whether it is marked: then an `m` is after the width.
 fn datum_of(word: &str) -> Option<(Width, bool)> {
-    match word.strip_suffix('m') {
-        Some(width) => Some((width_of(width)?, true)),
-        None => Some((width_of(word)?, false)),
-    }
+    let width = match word.strip_suffix('m').unwrap_or(word) {
+        "d4" => Width::Four,
+        "d8" => Width::Eight,
+        "d16" => Width::Sixteen,
+        "d32" => Width::ThirtyTwo,
+        "d64" => Width::SixtyFour,
+        _ => return None,
+    };
+    Some((width, word.ends_with('m')))
 }
 
 /// A timestamp: `natural TIME`, `gray TIME`, `raw SIZE WORD`, or none.
@@ -63,39 +56,39 @@ fn place_of(words: &mut Words<'_>) -> Place {
 
 /// An item: `async`, `version NUMBER`, `merr PLACE CODE`, `gerr CODE`, a datum with a place, a value and a timestamp,
 /// `flag PLACE STAMP`, `trig CODE STAMP`, `freq HERTZ STAMP`, or `null STAMP`.
-pub fn item_of(words: &mut Words<'_>) -> StpItem {
+pub fn item_of(mut words: Words<'_>) -> StpItem {
     let kind = words.word();
     if let Some((width, marked)) = datum_of(kind) {
         return StpItem::Datum {
-            place: place_of(words),
+            place: place_of(&mut words),
             width,
             value: words.number(),
             marked,
-            stamp: stamp_of(words),
+            stamp: stamp_of(&mut words),
         };
     }
     match kind {
         "async" => StpItem::Async,
         "version" => StpItem::Version(words.byte()),
         "merr" => StpItem::MasterError {
-            place: place_of(words),
+            place: place_of(&mut words),
             code: words.byte(),
         },
         "gerr" => StpItem::GlobalError { code: words.byte() },
         "flag" => StpItem::Flag {
-            place: place_of(words),
-            stamp: stamp_of(words),
+            place: place_of(&mut words),
+            stamp: stamp_of(&mut words),
         },
         "trig" => StpItem::Trigger {
             code: words.byte(),
-            stamp: stamp_of(words),
+            stamp: stamp_of(&mut words),
         },
         "freq" => StpItem::Frequency {
             hertz: words.quarter(),
-            stamp: stamp_of(words),
+            stamp: stamp_of(&mut words),
         },
         _ => StpItem::NullStamp {
-            stamp: stamp_of(words),
+            stamp: stamp_of(&mut words),
         },
     }
 }
@@ -122,7 +115,7 @@ fn row_of(word: &str, stamped: bool) -> Row {
 }
 
 /// A packet: `async`, `plain ROW PAYLOAD`, or `stamped ROW PAYLOAD SIZE WORD`.
-pub fn packet_of(words: &mut Words<'_>) -> StpPacket {
+pub fn packet_of(mut words: Words<'_>) -> StpPacket {
     match words.word() {
         "plain" => StpPacket::Plain {
             row: row_of(words.word(), false),

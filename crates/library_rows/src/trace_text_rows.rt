@@ -1,9 +1,8 @@
 //! Rows of `trace_text`.
 
 use crate::notation::Words;
+use crate::out::Out;
 use source_events::{PortMode, SourceKind, SourceTail, Stop};
-use std::alloc::Global;
-use std::io::{self, Write};
 use trace_stream::{TEXT_ROOM, Text};
 use trace_text::{
     BufferLine, EndLine, FaultLine, ImageLine, LastLine, LimitLine, PortCountsLines, PortEndLine,
@@ -12,20 +11,16 @@ use trace_text::{
 use trace_values::{Fault, Reason};
 
 /// Writes a text, with `\n` where it ends a line.
-fn put<T: Text, W: Write>(text: &T, out: &mut W) -> io::Result<()>
+fn put<T: Text>(text: &T, out: &mut Out)
     requires { T.fits text.now }
 {
     let mut room = [b'.'; TEXT_ROOM];
     let end = text.put(&mut room, 0);
-    out.write_all(b"  ")?;
-    for &byte in &room[..end] {
-        if byte == b'\n' {
-            out.write_all(b"\\n")?;
-        } else {
-            out.write_all(&[byte])?;
-        }
+    out.put("  ");
+    for line in str::from_utf8(&room[..end]).unwrap_or("?").lines() {
+        out.put(line).put("\\n");
     }
-    out.write_all(b"\n")
+    out.put("\n");
 }
 
 fn mode_of(word: &str) -> PortMode {
@@ -38,7 +33,7 @@ fn mode_of(word: &str) -> PortMode {
 }
 
 /// `source NUMBER KIND MODE SKIPPED TAIL`
-fn tail_of(words: &mut Words<'_>) -> SourceTail {
+fn tail_of(mut words: Words<'_>) -> SourceTail {
     SourceTail {
         id: words.source().unwrap_or_default(),
         kind: match words.word() {
@@ -67,7 +62,7 @@ pub fn reason_of(word: &str) -> Reason {
 }
 
 /// `fault PROTOCOL SOURCE AT HALF REASON`, where the protocol is `stp` or another.
-fn fault_of(words: &mut Words<'_>) -> FaultLine {
+fn fault_of(mut words: Words<'_>) -> FaultLine {
     let stp = words.word() == "stp";
     let source = words.source();
     let fault = Fault {
@@ -82,7 +77,7 @@ fn fault_of(words: &mut Words<'_>) -> FaultLine {
 }
 
 /// `port MODE SKIPPED TAIL UNATTRIBUTED`
-fn port_of(words: &mut Words<'_>) -> PortEndLine {
+fn port_of(mut words: Words<'_>) -> PortEndLine {
     PortEndLine {
         mode: mode_of(words.word()),
         skipped: words.number(),
@@ -92,7 +87,7 @@ fn port_of(words: &mut Words<'_>) -> PortEndLine {
 }
 
 /// `counts FULLS HALVES FRAMES`
-fn counts_of(words: &mut Words<'_>) -> PortCountsLines {
+fn counts_of(mut words: Words<'_>) -> PortCountsLines {
     PortCountsLines {
         fulls: words.number(),
         halves: words.number(),
@@ -101,7 +96,7 @@ fn counts_of(words: &mut Words<'_>) -> PortCountsLines {
 }
 
 /// `buffer POINTER FULL DROPPED`, where `FULL` is 0 or 1.
-fn buffer_of(words: &mut Words<'_>) -> BufferLine {
+fn buffer_of(mut words: Words<'_>) -> BufferLine {
     BufferLine {
         pointer: words.number(),
         full: words.number() == 1,
@@ -110,55 +105,55 @@ fn buffer_of(words: &mut Words<'_>) -> BufferLine {
 }
 
 /// `last BYTES`
-fn last<W: Write>(bytes: &[u8], out: &mut W) -> io::Result<()> {
+fn last(bytes: &[u8], out: &mut Out) {
     if bytes.len() > 8 {
-        return out.write_all(b"  ? many bytes\n");
+        return out.line("? many bytes");
     }
-    put(&LastLine { bytes }, out)
+    put(&LastLine { bytes }, out);
 }
 
 /// `script LINE NUMBER NAME`
-fn script<W: Write>(words: &mut Words<'_>, out: &mut W) -> io::Result<()> {
+fn script(mut words: Words<'_>, out: &mut Out) {
     let (line, number, name) = (words.number(), words.byte(), words.word());
     if name.len() > 12 {
-        return out.write_all(b"  ? a long name\n");
+        return out.line("? a long name");
     }
-    put(&ScriptFaultLine { line, number, name }, out)
+    put(&ScriptFaultLine { line, number, name }, out);
 }
 
-/// Runs a row: the text of a line or of several. `end`, `limit` and `image` have a number.
-pub fn run<W: Write>(alloc: Global, words: &mut Words<'_>, out: &mut W) -> io::Result<()> {
-    match words.word() {
-        "end" => put(
+/// Runs the row of this name: the text of a line or of several. `end`, `limit` and `image` have a number.
+pub fn run(name: &str, mut words: Words<'_>, out: &mut Out) {
+    match name {
+        "trace_text end" => put(
             &EndLine {
                 bytes: words.number(),
             },
             out,
         ),
-        "limit" => put(
+        "trace_text limit" => put(
             &LimitLine {
                 limit: words.number(),
             },
             out,
         ),
-        "image" => put(
+        "trace_text image" => put(
             &ImageLine {
                 size: words.number(),
             },
             out,
         ),
-        "port" => put(&port_of(words), out),
-        "source" => put(
+        "trace_text port" => put(&port_of(words), out),
+        "trace_text source" => put(
             &SourceEndLine {
                 source: tail_of(words),
             },
             out,
         ),
-        "counts" => put(&counts_of(words), out),
-        "buffer" => put(&buffer_of(words), out),
-        "fault" => put(&fault_of(words), out),
-        "script" => script(words, out),
-        "last" => last(&words.bytes(alloc)?, out),
-        _ => out.write_all(b"  ? no such call\n"),
+        "trace_text counts" => put(&counts_of(words), out),
+        "trace_text buffer" => put(&buffer_of(words), out),
+        "trace_text fault" => put(&fault_of(words), out),
+        "trace_text script" => script(words, out),
+        "trace_text last" => last(&words.bytes(out), out),
+        _ => out.line("? no such call"),
     }
 }

@@ -3,4 +3,4 @@ use Rattle.itm_grammar.specs.Rule.{is_sound}
 use Rattle.library_rows.proofs.itm_grammar_rows.packets.Given as goal
 
 abbrev pub invariant-loop-at : goal.invariant-loop-at
-invariant-loop-at g l = is_sound l.partial ≡ true
+invariant-loop-at l = is_sound l.partial ≡ true
