@@ -27,19 +27,20 @@ pub fn capture(mut words: Words<'_>, out: &mut Out) {
         return out.line("? many half synchronisations");
     }
     let mut writer = FrameWriter::new(every, halves);
-    let mut written = Vec::new(out.alloc);
-    for (id, byte) in tagged(words, out) {
+    let tagged = tagged(words, out);
+    out.put("  capture ");
+    for (id, byte) in tagged {
         if id.number() > 0 && writer.frames() < COUNT_ROOM {
             let mut frame = ArrayVec::new();
             writer.put(id, byte, &mut frame);
-            out.note(written.extend_from_slice(frame.as_slice()));
+            out.put_bytes(frame.as_slice());
         }
     }
     let mut frame = ArrayVec::new();
     let frames = writer.finish(&mut frame);
-    out.note(written.extend_from_slice(frame.as_slice()));
-    out.bytes("capture", &written);
-    out.put("  frames ").put_value(&frames).put("\n");
+    out.put_bytes(frame.as_slice());
+    out.put(if frames == 0 { "none" } else { "" });
+    out.put("\n  frames ").put_value(&frames).put("\n");
 }
 
 /// `sure ID:HH.. ID:HH..`: what becomes sure with which byte, counted from 0 on, and the rest of the capture.

@@ -119,8 +119,7 @@ fn main(rt: HostRuntime) -> io::Result<()> {
     let mut out = Out::new(rt.alloc());
     for line in rt.lines(rt.alloc()) {
         let line = line?;
-        out.put(line.as_str());
-        out.put("\n");
+        out.put(line.as_str()).put("\n");
         if !line.is_empty() && !line.starts_with('#') {
             take_line(line.as_str(), &mut out);
         }

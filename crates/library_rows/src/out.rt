@@ -110,15 +110,20 @@ impl Out {
         }
     }
 
+    /// Writes these bytes.
+    pub fn put_bytes(&mut self, bytes: &[u8]) {
+        for &byte in bytes {
+            self.put_byte(byte);
+        }
+    }
+
     /// Writes the line of this name and these bytes.
     pub fn bytes(&mut self, name: &str, bytes: &[u8]) {
         self.put("  ").put(name).put(" ");
         if bytes.is_empty() {
             self.put("none");
         }
-        for &byte in bytes {
-            self.put_byte(byte);
-        }
+        self.put_bytes(bytes);
         self.put("\n");
     }
 }

@@ -21,18 +21,24 @@ fn push(aligner: &mut Aligner, bytes: &[u8], out: &mut Out) {
     out.put("\n");
 }
 
+/// What has taken this many halfwords of a frame.
+fn aligner_after(halfwords: u8) -> Aligner {
+    let mut aligner = Aligner::new();
+    for _halfword in 0..halfwords {
+        for byte in [0x02, 0xff] {
+            if aligner.is_live() {
+                aligner.push(byte);
+            }
+        }
+    }
+    aligner
+}
+
 /// `push HALFWORDS BYTES,BYTES..`: what each of these gives after this many halfwords of a frame.
 pub fn align(mut words: Words<'_>, out: &mut Out) {
     let halfwords = words.byte();
     for text in words.rest.split(',') {
-        let mut aligner = Aligner::new();
-        for _halfword in 0..halfwords {
-            for byte in [0x02, 0xff] {
-                if aligner.is_live() {
-                    aligner.push(byte);
-                }
-            }
-        }
+        let mut aligner = aligner_after(halfwords);
         push(&mut aligner, &Words { rest: text }.bytes(out), out);
     }
 }
