@@ -14,13 +14,11 @@ returns-in_default c = λ order given ready.
 pub returns-in-Ok : goal.returns-in-Ok
 returns-in-Ok c = λ order given ready.
     let next : NextItem = record { order = order; given = given; id = c.args.id; item = Stp c.args.item.now } in
-    let found = found_in next c.args.encoders.now c.in-Some.index c.index-encoders-index.result
-    (sym c.find.ensures ∙ c.in-Some.is) ready in
+    let found = found_in next _ c.in-Some.index c.index-encoders-index.result (sym c.find.ensures ∙ c.in-Some.is) ready in
     stp_line None next c.args.item.now false refl (sym (c.in-Ok.ensures.fits (given c.args.id) found.stands))
 
 pub returns-in-Err : goal.returns-in-Err
 returns-in-Err c = λ order given ready.
     let next : NextItem = record { order = order; given = given; id = c.args.id; item = Stp c.args.item.now } in
-    let found = found_in next c.args.encoders.now c.in-Some.index c.index-encoders-index.result
-    (sym c.find.ensures ∙ c.in-Some.is) ready in
+    let found = found_in next _ c.in-Some.index c.index-encoders-index.result (sym c.find.ensures ∙ c.in-Some.is) ready in
     stp_line None next c.args.item.now true refl (sym (c.in-Err.ensures.fits (given c.args.id) found.stands))

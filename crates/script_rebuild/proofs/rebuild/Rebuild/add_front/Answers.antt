@@ -17,6 +17,6 @@ returns-clause-read c = λ seen s.
     let r = c.args.self.now in
     let n = c.plain_len-len.result in
     let front = take n c.args.piece.now in
-    let count = length-take-le n c.args.piece.now c.plain_len-len.ensures.bound in
-    let few : length (r.line.items ++ front) ≤ 256 = omega (arith, length-append r.line.items front, count, c.len.ensures.value, c.plain_len-len.ensures.few) in
+    let few : length (r.line.items ++ front) ≤ 256 =
+    omega (arith, length-append r.line.items front, length-take-le n c.args.piece.now c.plain_len-len.ensures.bound, c.len.ensures.value, c.plain_len-len.ensures.few) in
     front_is r seen front s c.requires.live.sound few c.plain_len-len.ensures.plain

@@ -29,18 +29,16 @@ returns-then-is_some-clause-ended c = λ seen s.
 pub returns-in-Ok-clause-ended : goal.returns-in-Ok-clause-ended
 returns-in-Ok-clause-ended c = λ seen s.
     let r = c.args.self.now in
-    let lines = (routed_so_far r.plan seen).lines in
     let live = none_if r.fault (sym c.is_some.ensures ∙ c.if-is_some.false) in
     let few : length r.line.items ≤ 256 = omega (arith, c.as_slice.ensures.fits, ap length c.as_slice.ensures.value) in
-    let puts = (c.in-Ok.ensures.puts lines s.writer).ok in
+    let puts = (c.in-Ok.ensures.puts (routed_so_far r.plan seen).lines s.writer).ok in
     ended_whole r _ c.put_line.new.writer seen c.as_slice.result.now refl live c.requires.paid s live few c.as_slice.ensures.value puts
     c.put_line.ensures.plan (c.flush.ensures.puts (port_of r.plan) _ puts.stands)
 
 pub returns-in-Err-clause-ended : goal.returns-in-Err-clause-ended
 returns-in-Err-clause-ended c = λ seen s.
     let r = c.args.self.now in
-    let lines = (routed_so_far r.plan seen).lines in
     let live = none_if r.fault (sym c.is_some.ensures ∙ c.if-is_some.false) in
     let few : length r.line.items ≤ 256 = omega (arith, c.as_slice.ensures.fits, ap length c.as_slice.ensures.value) in
     ended_last r _ seen c.as_slice.result.now c.in-Err.fault refl refl c.in-Err.ensures.same c.requires.paid s live few c.as_slice.ensures.value
-    (c.in-Err.ensures.puts lines s.writer).err
+    (c.in-Err.ensures.puts (routed_so_far r.plan seen).lines s.writer).err

@@ -10,6 +10,10 @@ use Rattle.script_rebuild.proofs.Taking.{stands_ended, all_owed, paid_writer, no
 use Rattle.script_rebuild.proofs.rebuild.RebuildAction.finish.Goals.{then-is_none, else-is_none}
 use Rattle.script_rebuild.proofs.rebuild.RebuildAction.finish.Goals as goal
 
+-- what has ended stays so, by another name of it
+ended_as : {r now : Rebuild} {seen : List ℕ} → now ≡ r → HasEnded r seen → HasEnded now seen
+ended_as {r} {now} {seen} is h = subst (λ (r : Rebuild). HasEnded r seen) (sym is) h
+
 pub end-requires-clause-reading : goal.end-requires-clause-reading
 end-requires-clause-reading c = none_if c.args.self.now.owed (c.is_none.ensures ∙ ap (λ (b : Bool). not b) c.if-is_none.true)
 
@@ -20,12 +24,9 @@ end-requires-clause-paid c =
 pub returns-clause-stands : goal.returns-clause-stands
 returns-clause-stands c = λ seen s.
     let ended : HasEnded c.if-is_none.self seen = elim c.if-is_none.branch [
-      | then-is_none w ↦
-          subst (λ (r : Rebuild). HasEnded r seen) (sym w.self-is)
-          (w.end.ensures.ended seen (s.reads (none_if c.args.self.now.owed (c.is_none.ensures ∙ ap (λ (b : Bool). not b) w.if-is_none.true))))
-      | else-is_none w ↦
-          subst (λ (r : Rebuild). HasEnded r seen) (sym w.self-is)
-          (s.ended (c.is_none.ensures ∙ ap (λ (b : Bool). not b) w.if-is_none.false))
+      | then-is_none w ↦ ended_as w.self-is (w.end.ensures.ended seen (s.reads (none_if c.args.self.now.owed
+          (c.is_none.ensures ∙ ap (λ (b : Bool). not b) w.if-is_none.true))))
+      | else-is_none w ↦ ended_as w.self-is (s.ended (c.is_none.ensures ∙ ap (λ (b : Bool). not b) w.if-is_none.false))
     ] in
     stands_ended _ seen _ refl (record { fault = ended.fault; kept = ended.kept })
 
@@ -33,12 +34,9 @@ pub returns-clause-ended : goal.returns-clause-ended
 returns-clause-ended c = λ seen s.
     let r = c.if-is_none.self in
     let ended : HasEnded r seen = elim c.if-is_none.branch [
-      | then-is_none w ↦
-          subst (λ (r : Rebuild). HasEnded r seen) (sym w.self-is)
-          (w.end.ensures.ended seen (s.reads (none_if c.args.self.now.owed (c.is_none.ensures ∙ ap (λ (b : Bool). not b) w.if-is_none.true))))
-      | else-is_none w ↦
-          subst (λ (r : Rebuild). HasEnded r seen) (sym w.self-is)
-          (s.ended (c.is_none.ensures ∙ ap (λ (b : Bool). not b) w.if-is_none.false))
+      | then-is_none w ↦ ended_as w.self-is (w.end.ensures.ended seen (s.reads (none_if c.args.self.now.owed
+          (c.is_none.ensures ∙ ap (λ (b : Bool). not b) w.if-is_none.true))))
+      | else-is_none w ↦ ended_as w.self-is (s.ended (c.is_none.ensures ∙ ap (λ (b : Bool). not b) w.if-is_none.false))
     ] in
     let same : r.plan ≡ c.args.self.now.plan = elim c.if-is_none.branch [
       | then-is_none w ↦ ap (λ (r : Rebuild). plan_of r) w.self-is ∙ w.end.ensures.same
