@@ -272,7 +272,8 @@ impl Lister {
     }
 
     /// Takes the next item of this source, which is that of what a packet says, and puts its line, if it is listed,
-    /// from its parts. It is kept out of line: in line, `give_told` would be too large to go into the loop over ITM packets.
+    /// from its parts. It is kept out of line: in line, `give_told` would be too large to go into the loop over ITM
+    /// packets.
     #[inline(never)]
     fn put_said(&mut self, outlet: &mut Outlet, at: u64, half: u8, source: SourceId, said: Said)
         requires proper { IsProperSaid said }

@@ -1,5 +1,5 @@
-//! The exercise: a capture of a stated number of items, made as it is asked for, with which a reader of captures is tried
-//! at any length, and the action `exercise`, which reads it and writes a summary.
+//! The exercise: a capture of a stated number of items, made as it is asked for, with which a reader of captures is
+//! tried at any length, and the action `exercise`, which reads it and writes a summary.
 #![tactic(auto)]
 
 mod action;

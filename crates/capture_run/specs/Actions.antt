@@ -140,8 +140,8 @@ abbrev pub showing : Option Bool → ListPlan → TaskMeaning
 showing None p = task_of (show_meaning p) nothing (captured last_note)
 showing (Some guesses) p = listing_on (going_on p guesses)
 
--- A summary up to a capture's first fault, and one over all its faults, with the counts of kinds or without. No guess is
--- counted.
+-- A summary up to a capture's first fault, and one over all its faults, with the counts of kinds or without. No guess
+-- is counted.
 abbrev pub checking : Option Bool → Bool → Plan → TaskMeaning
 checking None false plan = task_of (check_meaning plan) nothing (captured last_note)
 checking None true plan = task_of (kinds_meaning plan) nothing (captured last_note)

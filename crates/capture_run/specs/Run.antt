@@ -13,10 +13,10 @@ use Rattle.capture_run.specs.declared.status.Status.TheVariants.{Done, Usage, Re
 use Rattle.capture_run.specs.declared.status.Status.TheVariants.{NoMemory, Limit, BadImage}
 
 -- What a task makes of the bytes that it reads: what its action does; what is noted of them as they come; which bytes
--- have a fault where they are all of the input, one that further bytes might have mended; what is noted where they are all and have none; what is noted
--- where a fault is certain with the last of these bytes, or where they are all of the input and have one; how the
--- run ends then; and whether the input is to have exactly as many bytes as the limit, so that it ends so where it has
--- more, too.
+-- have a fault where they are all of the input, one that further bytes might have mended; what is noted where they are
+-- all and have none; what is noted where a fault is certain with the last of these bytes, or where they are all of the
+-- input and have one; how the run ends then; and whether the input is to have exactly as many bytes as the limit, so
+-- that it ends so where it has more, too.
 pub record TaskMeaning : Type 1 where
   pub action : Meaning
   pub noted : List ℕ → List ℕ
@@ -26,8 +26,8 @@ pub record TaskMeaning : Type 1 where
   pub fault_status : Status
   pub exact : Bool
 
--- what is noted of the bytes that a task read where its run ends, how it ends at a fault, and whether its input is to have exactly as many
--- bytes as the limit
+-- what is noted of the bytes that a task read where its run ends, how it ends at a fault, and whether its input is to
+-- have exactly as many bytes as the limit
 pub record TaskNotes : Type 0 where
   pub late : List ℕ → Bool
   pub done_note : List ℕ → List ℕ

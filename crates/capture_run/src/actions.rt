@@ -20,8 +20,8 @@ use value_dump::Vcd;
 /// What is noted at a fault.
 #[derive(Clone, Copy, Drop)]
 pub enum FaultNote {
-    /// The last bytes up to the fault of a capture, and before them its line, if the output has none: that of a fault of
-    /// the port or of an ITM source.
+    /// The last bytes up to the fault of a capture, and before them its line, if the output has none: that of a fault
+    /// of the port or of an ITM source.
     Capture(Option<Stop>),
     /// The line of a script's fault.
     Script(Option<ScriptFault>),

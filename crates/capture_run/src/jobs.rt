@@ -212,7 +212,8 @@ fn run_vcd<I: Source, O: Sink, N: Sink>(
     }
 }
 
-/// Counts what is in a capture, up to its first fault or with all its faults, and with or without the items of each kind.
+/// Counts what is in a capture, up to its first fault or with all its faults, and with or without the items of each
+/// kind.
 fn run_check<I: Source, O: Sink, N: Sink>(
     buffers: &mut Buffers,
     plan: Plan,

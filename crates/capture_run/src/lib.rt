@@ -46,8 +46,8 @@ use trace_io::{Sink, Source};
 /// at each source, has no filter and is done, what it wrote follows that whole: from each source's point on it
 /// lists the whole's events, in the whole's order, at offsets that count from the first byte read (`fronts`).
 ///
-/// Where `rebuild` or `funnel` is done, the output gained the capture of the script, and that capture reads back, source
-/// by source, as exactly what the script's lines give (`reads_back`).
+/// Where `rebuild` or `funnel` is done, the output gained the capture of the script, and that capture reads back,
+/// source by source, as exactly what the script's lines give (`reads_back`).
 pub fn run<I: Source, O: Sink, N: Sink>(
     alloc: Global,
     words: &[String],

@@ -122,7 +122,8 @@ pub fn note_over<N: Sink>(notes: &mut N, fault: FaultNote, limit: u64) -> Status
 
 /// Notes what is told of a run that is done.
 pub fn note_done<N: Sink>(notes: &mut N, done: DoneNote)
-    ensures noted { Notes (N.held notes.old) (N.held notes.new) (N.faults notes.old) (N.faults notes.new) (done_text done) }
+    ensures noted { Notes (N.held notes.old) (N.held notes.new) (N.faults notes.old) (N.faults notes.new)
+        (done_text done) }
     ensures later { N.faults notes.old ≤ N.faults notes.new }
 {
     match done {

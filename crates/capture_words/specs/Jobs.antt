@@ -111,8 +111,8 @@ IsOfOne plan = (is_sound plan ≡ true) × (length plan.itm ≡ 1) × (plan.stp 
 
 -- What is sure of a task: its plan is sound, and for a script there are at most eight half synchronisations in a gap.
 -- From 1 to 1,000,000 items are made, of which at most 1,000,000 bytes are lost. A trace buffer has from 16 to 2^24
--- bytes, and its write pointer is one of them. The text of a stimulus port, 0 to 31, is that of one ITM source, and so is
--- a value dump, whose clock has at least one tick in a second. The turns of a funnel are sound.
+-- bytes, and its write pointer is one of them. The text of a stimulus port, 0 to 31, is that of one ITM source, and so
+-- is a value dump, whose clock has at least one tick in a second. The turns of a funnel are sound.
 abbrev pub IsSoundTask : Task → Type 0
 IsSoundTask (Show plan only window recover) = is_sound plan ≡ true
 IsSoundTask (Split frames id) = Unit {0}

@@ -22,9 +22,8 @@ returns-then-lists_guess-clause-line c = λ clocked seen h f.
 
 pub returns-else-lists_guess-clause-line : goal.returns-else-lists_guess-clause-line
 returns-else-lists_guess-clause-line c = λ clocked seen h f.
-    let old = c.args.self.now in
     let e = c.args.event.now in
     let at = c.args.outlet.now in
-    let p = plan_by old.plan old.filter in
+    let p = plan_by c.args.self.now.plan c.args.self.now.filter in
     let line = doubted (event_line (is_stp p.plan e.source) e (remark_of (itm_packets e.source clocked) e.what)) in
     sym (append-nil at) ∙ ap (λ (b : Bool). at ++ cond b line []) (sym c.if-lists_guess.false ∙ c.lists_guess.ensures seen f)
