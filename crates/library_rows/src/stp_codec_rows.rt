@@ -103,9 +103,9 @@ fn take_some(
     }
 }
 
-/// What a decoder says of the bytes, how many nibbles it holds and skipped, and whether its reading has begun. Each byte
-/// is fed alone, or in pieces of this size before this byte, where the part of a packet that a piece has is taken at
-/// once.
+/// What a decoder says of the bytes, how many nibbles it holds and skipped, and whether its reading has begun. Each
+/// byte is fed alone, or in pieces of this size before this byte, where the part of a packet that a piece has is taken
+/// at once.
 fn told(alloc: Global, mut decoder: StpDecoder, bytes: &[u8], pieces: Option<(usize, u8)>) -> Out {
     let mut out = Out::new(alloc);
     let (size, behind) = pieces.unwrap_or((1, 0));
