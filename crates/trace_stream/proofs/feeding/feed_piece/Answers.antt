@@ -72,3 +72,13 @@ pub returns-clause-fed : goal.returns-clause-fed
 returns-clause-fed g c = λ start first seen p e after.
     let none : c.loop-rest.rest.now ≡ [] = nil_from_length c.loop-rest.rest.now (empty_from_test (length c.loop-rest.rest.now) (sym c.is_empty.ensures ∙ c.loop-rest-test.false)) in
     feeding_all _ _ _ _ _ _ _ _ (c.loop-rest.invariant.feeding start first seen p e after) none c.in_ok-flush.ensures.ok c.in_ok-flush.ensures.emptied
+
+pub returns-clause-taken : goal.returns-clause-taken
+returns-clause-taken g c =
+    let was = c.loop-rest.invariant in
+    let none : length c.loop-rest.rest.now ≡ 0 = empty_from_test (length c.loop-rest.rest.now) (sym c.is_empty.ensures ∙ c.loop-rest-test.false) in
+    record {
+      within = omega arith;
+      count = omega (arith, none, was.count);
+      all = λ e. (was.live, refl, c.in_ok-flush.ensures.emptied);
+    }
