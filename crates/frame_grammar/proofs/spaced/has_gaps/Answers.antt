@@ -11,3 +11,8 @@ returns-in-Some-clause-gaps c = λ t k l.
       (ap (λ (i : ℕ). get_or p i 0) (let e : from + 4 * k + 2 ≡ from + (4 * k + 2) = omega arith in e) ∙ sym (chunk_at p c.in-Some.word.now from (4 * k + 2) f (omega arith)) ∙ g.0),
       (ap (λ (i : ℕ). get_or p i 0) (let e : from + 4 * k + 3 ≡ from + (4 * k + 3) = omega arith in e) ∙ sym (chunk_at p c.in-Some.word.now from (4 * k + 3) f (omega arith)) ∙ g.1),
     )
+
+pub returns-in-Some-clause-words : goal.returns-in-Some-clause-words
+returns-in-Some-clause-words c = λ t k l e.
+    c.is_spaced_word.ensures.words t k l
+    (chunk_at c.args.piece.now c.in-Some.word.now c.args.from (4 * k) c.in-Some.ensures.cases (omega arith) ∙ e)
