@@ -7,7 +7,7 @@ ghost use Rattle.trace_io.specs.Causes.{HasCause, CountsEmpty, faults_after};
 ghost use Rattle.trace_io.specs.Memory.{ReadsAsStated};
 
 use crate::pieces::piece_len;
-use crate::source::{Failed, Source};
+use crate::source::{Failed, Source, empty_reads_after};
 use std::marker::Model;
 
 /// Bytes in memory that come in stated pieces and fail at stated calls.
@@ -90,9 +90,7 @@ impl Source for MemorySource<'_> {
             return Err(Failed);
         }
         let count = piece_len(self.pieces, call, self.bytes.len().min(buf.len()));
-        if count == 0 {
-            self.empty_reads = empty_reads.saturating_add(1);
-        }
+        self.empty_reads = empty_reads_after(empty_reads, count);
         let (front, rest) = self.bytes.split_at(count);
         buf[..count].copy_from_slice(front);
         self.bytes = rest;

@@ -6,7 +6,7 @@ ghost use Rattle.std.specs.Io.KnownBytes.{ReadConsumes};
 ghost use Rattle.trace_io.specs.Adapters.{inner_reader, reader_faults, reader_empty_reads};
 ghost use Rattle.trace_io.specs.Causes.{HasCause, CountsEmpty, faults_after};
 
-use crate::source::{Failed, Source};
+use crate::source::{Failed, Source, empty_reads_after};
 use std::io::Read;
 
 /// A source over any reader of std.
@@ -56,9 +56,7 @@ impl<R: Read> Source for ReadAdapter<R> {
         let empty_reads = self.empty_reads;
         match self.inner.read(buf) {
             Ok(count) => {
-                if count == 0 {
-                    self.empty_reads = empty_reads.saturating_add(1);
-                }
+                self.empty_reads = empty_reads_after(empty_reads, count);
                 Ok(count)
             }
             Err(_) => {

@@ -5,7 +5,7 @@ ghost use Rattle.std.specs.Io.{ReadsAtMost};
 ghost use Rattle.std.specs.Io.KnownBytes.{ReadConsumes};
 ghost use Rattle.trace_io.specs.Causes.{HasCause, CountsEmpty, faults_after};
 
-use crate::source::{Failed, Source};
+use crate::source::{Failed, Source, empty_reads_after};
 use std::marker::Model;
 
 /// Bytes in memory that come as fast as they are asked for: each call gives as many as are left and fit.
@@ -60,9 +60,7 @@ impl Source for SureSource<'_> {
     {
         let empty_reads = self.empty_reads;
         let count = self.bytes.len().min(buf.len());
-        if count == 0 {
-            self.empty_reads = empty_reads.saturating_add(1);
-        }
+        self.empty_reads = empty_reads_after(empty_reads, count);
         let (front, rest) = self.bytes.split_at(count);
         buf[..count].copy_from_slice(front);
         self.bytes = rest;
