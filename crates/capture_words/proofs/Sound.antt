@@ -14,33 +14,37 @@ use Rattle.source_events.specs.declared.plan.Plan.{Plan}
 use Rattle.trace_funnel.specs.Order.{are_apart}
 use Rattle.trace_funnel.specs.SoundTurns.{IsSoundTurns}
 use Rattle.trace_funnel.specs.declared.turns.Turns.{Turns}
+use Rattle.trace_values.specs.ReadingModes.{frames_named, packets_named}
 use Rattle.trace_values.specs.declared.reading_modes.FramesMode.{FramesMode}
 use Rattle.capture_words.specs.Choices.{AreIds}
 use Rattle.capture_words.specs.Command.{option_name}
 use Rattle.capture_words.specs.Jobs.{again_after, fault_or, mapped_twice, plan_with, split_with, ring_with, unring_with}
 use Rattle.capture_words.specs.Jobs.{plan_of_one, order_with, turns_with, task_with, job_of, IsOfOne, IsSoundTask}
-use Rattle.capture_words.specs.Settings.{◌>>=◌, plan_in, buffer_in, turns_in, settings_in}
-use Rattle.capture_words.specs.Values.{action_in, frames_in, packets_in, itm_in, stp_in, order_in, id_in, only_in}
-use Rattle.capture_words.specs.Values.{window_in, sync_in, half_in, limit_in, items_in, lose_in, recover_in, size_in}
-use Rattle.capture_words.specs.Values.{pointer_in, full_in, turn_order_in, hold_in, depth_in, port_in, hz_in, kinds_in}
-use Rattle.capture_words.specs.Values.{option_in, value_of, number_given, ids_named}
+use Rattle.capture_words.specs.Settings.{◌>>=◌, defaults, present, said, given, all_given, settings_in}
+use Rattle.capture_words.specs.Values.{action_in, order_named, bit_named, ids_named, choices_named, window_named}
+use Rattle.capture_words.specs.Values.{recover_named, switch_named}
 use Rattle.capture_words.specs.declared.job.Job.{Job}
 use Rattle.capture_words.specs.declared.job.Task.{Task}
 use Rattle.capture_words.specs.declared.job.Task.TheVariants.{Unring as UnringTask}
 use Rattle.capture_words.specs.declared.option.CommandOption.{CommandOption}
-use Rattle.capture_words.specs.declared.option.CommandOption.TheVariants as options
+use Rattle.capture_words.specs.declared.option.CommandOption.TheVariants.{Frames, Packets, Itm, Stp, StpOrder, Id}
+use Rattle.capture_words.specs.declared.option.CommandOption.TheVariants.{Only, Window, Sync, Half, Limit, Items}
+use Rattle.capture_words.specs.declared.option.CommandOption.TheVariants.{Lose, Recover, Size, Pointer, Full, Order}
+use Rattle.capture_words.specs.declared.option.CommandOption.TheVariants.{Hold, Depth, Port, Hz, Kinds}
+use Rattle.capture_words.specs.declared.option.TheConstants.{ALL_OPTIONS}
 use Rattle.capture_words.specs.declared.reading.Asked.TheVariants.{Do}
-use Rattle.capture_words.specs.declared.settings.BufferSettings.{BufferSettings}
 use Rattle.capture_words.specs.declared.settings.Settings.{Settings}
-use Rattle.capture_words.specs.declared.settings.TurnSettings.{TurnSettings}
 use Rattle.capture_words.specs.declared.usage.UsageFault.{UsageFault}
 use Rattle.capture_words.specs.declared.usage.UsageFault.TheVariants.{BadValue, MappedTwice, OrderedTwice}
 use Rattle.capture_words.specs.declared.usage.UsageFault.TheVariants.{PointerNotUnderSize, TextNeedsItm}
 use Rattle.capture_words.specs.declared.usage.UsageFault.TheVariants.{TextReadsOneSource, VcdNeedsItm, VcdReadsOneSource}
 use Rattle.capture_words.specs.declared.values.ActionName.{ActionName}
-use Rattle.capture_words.specs.declared.values.ActionName.TheVariants.{Show, Split, Check, Rebuild, Exercise}
-use Rattle.capture_words.specs.declared.values.ActionName.TheVariants.{Realign, Ring, Unring, Text as TextName, Funnel}
-use Rattle.capture_words.specs.declared.values.ActionName.TheVariants.{Vcd}
+use Rattle.capture_words.specs.declared.values.ActionName.TheVariants.{Show as ShowName, Split as SplitName}
+use Rattle.capture_words.specs.declared.values.ActionName.TheVariants.{Check as CheckName, Rebuild as RebuildName}
+use Rattle.capture_words.specs.declared.values.ActionName.TheVariants.{Exercise as ExerciseName, Realign as RealignName}
+use Rattle.capture_words.specs.declared.values.ActionName.TheVariants.{Ring as RingName, Unring as UnringName}
+use Rattle.capture_words.specs.declared.values.ActionName.TheVariants.{Text as TextName, Funnel as FunnelName}
+use Rattle.capture_words.specs.declared.values.ActionName.TheVariants.{Vcd as VcdName}
 use Rattle.capture_words.specs.declared.values.TheConstants.{GREATEST_LIMIT}
 use Rattle.capture_words.proofs.Again.{InRange, is_sound_list, is_apart_list}
 use Rattle.capture_words.proofs.IdLists.{ids_is}
@@ -75,138 +79,156 @@ some_named : {T : Type 0} (named : Option T) (fault : UsageFault) (x : T) → ok
 some_named None fault x e = absurd cc
 some_named (Some y) fault x e = let same : y ≡ x = same_ok e in ap (λ z. Some z) same
 
--- what holds of the default, and of all that texts name
-of_option : {T : Type 0} (Is : T → Type 0) (option : CommandOption) (default : T) (named : Text → Option T)
-    (rows : List Row) → Is default → ((text : Text) (x : T) → named text ≡ Some x → Is x) → (x : T) →
-    option_in option default named rows ≡ Ok x → Is x
-of_option {T} Is option default named rows at_default at_named x = go (first_of (option_name option) rows)
-  where
-    go : (given : Option Text) → ok_or (value_of default named given) (BadValue option) ≡ Ok x → Is x
-    go None e = subst Is (same_ok e) at_default
-    go (Some text) e = at_named text x (some_named (named text) (BadValue option) x e)
+-- what holds of the settings with each value that a text names
+changed : {T : Type 0} (Are : Settings → Type 0) (named : Option T) (put : T → Settings) (t : Settings) →
+    ((x : T) → named ≡ Some x → Are (put x)) → option_map put named ≡ Some t → Are t
+changed Are None put t h e = absurd cc
+changed Are (Some x) put t h e = subst Are (let same : put x ≡ t = cc in same) (h x refl)
 
 abbrev Between : ℕ → ℕ → ℕ → Type 0
 Between least greatest n = (least ≤ n) × (n ≤ greatest)
 
-number_between : (least greatest : ℕ) (text : Text) (n : ℕ) → number_named least greatest text ≡ Some n →
+between : (least greatest : ℕ) (text : Text) (n : ℕ) → number_named least greatest text ≡ Some n →
     Between least greatest n
-number_between least greatest text n e = let is = number_is least greatest n text e in (is.0, is.1)
+between least greatest text n e = let is = number_is least greatest n text e in (is.0, is.1)
 
-between : (option : CommandOption) (default least greatest : ℕ) (rows : List Row) (n : ℕ) →
-    Between least greatest default → number_given option default least greatest rows ≡ Ok n → Between least greatest n
-between option default least greatest rows n is =
-    of_option (Between least greatest) option default (number_named least greatest) rows is
-    (number_between least greatest) n
-
-given_some : {T : Type 0} (named value : Option T) (x : T) → option_map (λ y. Some y) named ≡ Some value →
-    value ≡ Some x → named ≡ Some x
-given_some None value x e is = absurd cc
-given_some (Some y) value x e is = cc
-
--- an option without a default
-if_given : {T : Type 0} (Is : T → Type 0) (option : CommandOption) (named : Text → Option T) (rows : List Row) →
-    ((text : Text) (x : T) → named text ≡ Some x → Is x) → (value : Option T) →
-    option_in option None (λ text. option_map (λ y. Some y) (named text)) rows ≡ Ok value → ForSome value Is
-if_given {T} Is option named rows at_named =
-    of_option (λ (value : Option T). ForSome value Is) option None (λ text. option_map (λ y. Some y) (named text)) rows
-    (λ x e. absurd cc) (λ text value e x is. at_named text x (given_some (named text) value x e is))
+-- a setting that may be absent
+if_present : {T : Type 0} (Is : T → Type 0) (named : Option T) (value : Option T) →
+    ((x : T) → named ≡ Some x → Is x) → present named ≡ Some value → ForSome value Is
+if_present Is None value h e = absurd cc
+if_present Is (Some x) value h e = λ y is. h y (let same : x ≡ y = cc in ap (λ z. Some z) same)
 
 abbrev Mapped : List ℕ → Type 0
 Mapped ids = All (InRange 111) ids
 
-mapped : (option : CommandOption) (rows : List Row) (ids : List ℕ) →
-    option_in option [] (ids_named 8 111) rows ≡ Ok ids → Mapped ids
-mapped option rows =
-    of_option Mapped option [] (ids_named 8 111) rows (All-from_recursion (InRange 111) [] tt)
-    (λ text ids e. (ids_is 8 111 ids text (lit≤ tt) e).0.0)
+mapped : (text : Text) (ids : List ℕ) → ids_named 8 111 text ≡ Some ids → Mapped ids
+mapped text ids e = (ids_is 8 111 ids text (lit≤ tt) e).0.0
 
 -- == What all options say
+
+abbrev IsSize : Option ℕ → Type 0
+IsSize size = ForSome size (Between 16 (2 ^ 24))
+
+abbrev IsGivenOrder : Option (List ℕ) → Type 0
+IsGivenOrder order = ForSome order (AreIds 16 126)
+
+abbrev IsHz : Option ℕ → Type 0
+IsHz hz = ForSome hz (λ n. 0 < n)
 
 abbrev AreMapped : Plan → Type 0
 AreMapped plan = Mapped plan.itm × Mapped plan.stp
 
-of_plan : (rows : List Row) (plan : Plan) → plan_in rows ≡ Ok plan → AreMapped plan
-of_plan rows plan e =
-    let frames = passes (frames_in rows) _ plan e in
-    let packets = passes (packets_in rows) _ plan frames.rest in
-    let itm = passes (itm_in rows) _ plan packets.rest in
-    let stp = passes (stp_in rows) _ plan itm.rest in
-    let order = passes (order_in rows) _ plan stp.rest in
-    subst AreMapped (same_ok order.rest)
-    (mapped options.Itm rows itm.value itm.is, mapped options.Stp rows stp.value stp.is)
+abbrev AreSmall : Settings → Type 0
+AreSmall s = (s.half ≤ 8) × (s.lose ≤ 1000000) × (s.port ≤ 31)
 
-abbrev IsBuffer : BufferSettings → Type 0
-IsBuffer buffer = ForSome buffer.size (Between 16 (2 ^ 24))
+abbrev AreBetween : Settings → Type 0
+AreBetween s =
+    Between 1 GREATEST_LIMIT s.limit × Between 1 1000000 s.items × Between 1 15 s.hold × Between 1 4096 s.depth
 
-of_buffer : (rows : List Row) (buffer : BufferSettings) → buffer_in rows ≡ Ok buffer → IsBuffer buffer
-of_buffer rows buffer e =
-    let size = passes (size_in rows) _ buffer e in
-    let pointer = passes (pointer_in rows) _ buffer size.rest in
-    let full = passes (full_in rows) _ buffer pointer.rest in
-    subst IsBuffer (same_ok full.rest)
-    (if_given (Between 16 (2 ^ 24)) options.Size (number_named 16 (2 ^ 24)) rows (number_between 16 (2 ^ 24))
-    size.value size.is)
+abbrev ArePresent : Settings → Type 0
+ArePresent s = IsSize s.size × IsGivenOrder s.order × IsHz s.hz
 
-abbrev AreTurns : TurnSettings → Type 0
-AreTurns turns = ForSome turns.order (AreIds 16 126) × Between 1 15 turns.hold × Between 1 4096 turns.depth
+abbrev AreSettings : Settings → Type 0
+AreSettings s = AreMapped s.plan × AreSmall s × AreBetween s × ArePresent s
 
-of_turns : (rows : List Row) (turns : TurnSettings) → turns_in rows ≡ Ok turns → AreTurns turns
-of_turns rows turns e =
-    let order = passes (turn_order_in rows) _ turns e in
-    let hold = passes (hold_in rows) _ turns order.rest in
-    let depth = passes (depth_in rows) _ turns hold.rest in
-    subst AreTurns (same_ok depth.rest) (
-      if_given (AreIds 16 126) options.Order (ids_named 16 126) rows
-          (λ text ids e. (ids_is 16 126 ids text (lit≤ tt) e).0) order.value order.is,
-      between options.Hold 4 1 15 rows hold.value (lit≤ tt, lit≤ tt) hold.is,
-      between options.Depth 256 1 4096 rows depth.value (lit≤ tt, lit≤ tt) depth.is,
-    )
-
-record AreSettings (s : Settings) : Type 0 where
-  pub plan : AreMapped s.plan
-  pub half : s.half ≤ 8
-  pub limit : Between 1 GREATEST_LIMIT s.limit
-  pub items : Between 1 1000000 s.items
-  pub lose : s.lose ≤ 1000000
-  pub buffer : IsBuffer s.buffer
-  pub turns : AreTurns s.turns
-  pub port : s.port ≤ 31
-  pub hz : ForSome s.hz (λ n. 0 < n)
+by_default : AreSettings defaults
+by_default = (
+  (All-from_recursion (InRange 111) [] tt, All-from_recursion (InRange 111) [] tt),
+  (lit≤ tt, lit≤ tt, lit≤ tt),
+  ((lit≤ tt, lit≤ tt), (lit≤ tt, lit≤ tt), (lit≤ tt, lit≤ tt), (lit≤ tt, lit≤ tt)),
+  (λ x e. absurd cc, λ x e. absurd cc, λ x e. absurd cc),
+)
 
 positive : (n : ℕ) → 1 ≤ n → 0 < n
 positive n is = omega (arith, is)
 
-of_settings : (rows : List Row) (s : Settings) → settings_in rows ≡ Ok s → AreSettings s
-of_settings rows s e =
-    let plan = passes (plan_in rows) _ s e in
-    let id = passes (id_in rows) _ s plan.rest in
-    let only = passes (only_in rows) _ s id.rest in
-    let window = passes (window_in rows) _ s only.rest in
-    let sync = passes (sync_in rows) _ s window.rest in
-    let half = passes (half_in rows) _ s sync.rest in
-    let limit = passes (limit_in rows) _ s half.rest in
-    let items = passes (items_in rows) _ s limit.rest in
-    let lose = passes (lose_in rows) _ s items.rest in
-    let recover = passes (recover_in rows) _ s lose.rest in
-    let buffer = passes (buffer_in rows) _ s recover.rest in
-    let turns = passes (turns_in rows) _ s buffer.rest in
-    let port = passes (port_in rows) _ s turns.rest in
-    let hz = passes (hz_in rows) _ s port.rest in
-    let kinds = passes (kinds_in rows) _ s hz.rest in
-    let clock =
-    if_given (Between 1 1000000000000) options.Hz (number_named 1 1000000000000) rows
-    (number_between 1 1000000000000) hz.value hz.is in
-    subst AreSettings (same_ok kinds.rest) (record {
-      plan = of_plan rows plan.value plan.is;
-      half = (between options.Half 0 0 8 rows half.value (lit≤ tt, lit≤ tt) half.is).1;
-      limit = between options.Limit GREATEST_LIMIT 1 GREATEST_LIMIT rows limit.value (lit≤ tt, lit≤ tt) limit.is;
-      items = between options.Items 12000 1 1000000 rows items.value (lit≤ tt, lit≤ tt) items.is;
-      lose = (between options.Lose 0 0 1000000 rows lose.value (lit≤ tt, lit≤ tt) lose.is).1;
-      buffer = of_buffer rows buffer.value buffer.is;
-      turns = of_turns rows turns.value turns.is;
-      port = (between options.Port 0 0 31 rows port.value (lit≤ tt, lit≤ tt) port.is).1;
-      hz = λ n is. positive n (clock n is).0;
-    })
+-- each option that is given keeps that
+kept : (s : Settings) (option : CommandOption) (text : Text) (t : Settings) → AreSettings s →
+    said s option text ≡ Some t → AreSettings t
+kept s Frames text t are e = changed AreSettings (frames_named text) _ t (λ x is. are) e
+kept s Packets text t are e = changed AreSettings (packets_named text) _ t (λ x is. are) e
+kept s Itm text t ((itm, stp), small, ranges, optional) e =
+    changed AreSettings (ids_named 8 111 text) _ t (λ ids is. ((mapped text ids is, stp), small, ranges, optional)) e
+kept s Stp text t ((itm, stp), small, ranges, optional) e =
+    changed AreSettings (ids_named 8 111 text) _ t (λ ids is. ((itm, mapped text ids is), small, ranges, optional)) e
+kept s StpOrder text t are e = changed AreSettings (order_named text) _ t (λ x is. are) e
+kept s Id text t are e = changed AreSettings (present (number_named 0 126 text)) _ t (λ x is. are) e
+kept s Only text t are e = changed AreSettings (present (choices_named text)) _ t (λ x is. are) e
+kept s Window text t are e = changed AreSettings (present (window_named text)) _ t (λ x is. are) e
+kept s Sync text t are e = changed AreSettings (number_named 0 1000000 text) _ t (λ x is. are) e
+kept s Half text t (plan, (half, lose, port), ranges, optional) e =
+    changed AreSettings (number_named 0 8 text) _ t
+    (λ n is. (plan, ((between 0 8 text n is).1, lose, port), ranges, optional)) e
+kept s Limit text t (plan, small, (limit, items, hold, depth), optional) e =
+    changed AreSettings (number_named 1 GREATEST_LIMIT text) _ t
+    (λ n is. (plan, small, (between 1 GREATEST_LIMIT text n is, items, hold, depth), optional)) e
+kept s Items text t (plan, small, (limit, items, hold, depth), optional) e =
+    changed AreSettings (number_named 1 1000000 text) _ t
+    (λ n is. (plan, small, (limit, between 1 1000000 text n is, hold, depth), optional)) e
+kept s Lose text t (plan, (half, lose, port), ranges, optional) e =
+    changed AreSettings (number_named 0 1000000 text) _ t
+    (λ n is. (plan, (half, (between 0 1000000 text n is).1, port), ranges, optional)) e
+kept s Recover text t are e = changed AreSettings (recover_named text) _ t (λ x is. are) e
+kept s Size text t (plan, small, ranges, (size, order, hz)) e =
+    changed AreSettings (present (number_named 16 (2 ^ 24) text)) _ t
+    (λ value is. (
+      plan,
+      small,
+      ranges,
+      (if_present (Between 16 (2 ^ 24)) (number_named 16 (2 ^ 24) text) value (between 16 (2 ^ 24) text) is, order, hz),
+    )) e
+kept s Pointer text t are e = changed AreSettings (number_named 0 16777215 text) _ t (λ x is. are) e
+kept s Full text t are e = changed AreSettings (bit_named text) _ t (λ x is. are) e
+kept s Order text t (plan, small, ranges, (size, order, hz)) e =
+    changed AreSettings (present (ids_named 16 126 text)) _ t
+    (λ value is. (
+      plan,
+      small,
+      ranges,
+      (
+        size,
+        if_present (AreIds 16 126) (ids_named 16 126 text) value
+            (λ ids named. (ids_is 16 126 ids text (lit≤ tt) named).0) is,
+        hz,
+      ),
+    )) e
+kept s Hold text t (plan, small, (limit, items, hold, depth), optional) e =
+    changed AreSettings (number_named 1 15 text) _ t
+    (λ n is. (plan, small, (limit, items, between 1 15 text n is, depth), optional)) e
+kept s Depth text t (plan, small, (limit, items, hold, depth), optional) e =
+    changed AreSettings (number_named 1 4096 text) _ t
+    (λ n is. (plan, small, (limit, items, hold, between 1 4096 text n is), optional)) e
+kept s Port text t (plan, (half, lose, port), ranges, optional) e =
+    changed AreSettings (number_named 0 31 text) _ t
+    (λ n is. (plan, (half, lose, (between 0 31 text n is).1), ranges, optional)) e
+kept s Hz text t (plan, small, ranges, (size, order, hz)) e =
+    changed AreSettings (present (number_named 1 1000000000000 text)) _ t
+    (λ value is. (
+      plan,
+      small,
+      ranges,
+      (
+        size,
+        order,
+        if_present (λ n. 0 < n) (number_named 1 1000000000000 text) value
+            (λ n named. positive n (between 1 1000000000000 text n named).0) is,
+      ),
+    )) e
+kept s Kinds text t are e = changed AreSettings (switch_named text) _ t (λ x is. are) e
+
+kept_given : (s : Settings) (option : CommandOption) (text : Option Text) (t : Settings) → AreSettings s →
+    given s option text ≡ Some t → AreSettings t
+kept_given s option None t are e = subst AreSettings (let same : s ≡ t = cc in same) are
+kept_given s option (Some text) t are e = kept s option text t are e
+
+of_all : (rows : List Row) (options : List CommandOption) (s t : Settings) → AreSettings s →
+    all_given rows options s ≡ Ok t → AreSettings t
+of_all rows [] s t are e = subst AreSettings (same_ok e) are
+of_all rows (option ∷ options) s t are e =
+    let text = first_of (option_name option) rows in
+    let first = passes (ok_or (given s option text) (BadValue option)) (all_given rows options) t e in
+    let is = some_named (given s option text) (BadValue option) first.value first.is in
+    of_all rows options first.value t (kept_given s option text first.value are is) first.rest
 
 -- == What the action needs
 
@@ -261,42 +283,44 @@ of_order (Some ids) order are e =
     (recursion_from_All (InRange 126) ids in_order.0) in
     subst IsOrder none.1 (omega (arith, in_order.1), apart)
 
-of_turns_with : (settings : TurnSettings) (turns : Turns) → AreTurns settings → turns_with settings ≡ Ok turns →
-    IsSoundTurns turns
-of_turns_with settings turns are e =
-    let order = passes (order_with settings.order) _ turns e in
-    let is = of_order settings.order order.value are.0 order.is in
-    subst (λ (t : Turns). IsSoundTurns t) (same_ok order.rest) (is.0, is.1, are.1.0, are.1.1, are.2.0, are.2.1)
+of_turns_with : (given : Option (List ℕ)) (hold depth : ℕ) (turns : Turns) → IsGivenOrder given → Between 1 15 hold →
+    Between 1 4096 depth → turns_with given hold depth ≡ Ok turns → IsSoundTurns turns
+of_turns_with given hold depth turns are few deep e =
+    let order = passes (order_with given) _ turns e in
+    let is = of_order given order.value are order.is in
+    subst (λ (t : Turns). IsSoundTurns t) (same_ok order.rest) (is.0, is.1, few.0, few.1, deep.0, deep.1)
 
 of_task : (name : ActionName) (s : Settings) (task : Task) → AreSettings s → task_with name s ≡ Ok task →
     IsSoundTask task
-of_task Show s task are e =
+of_task ShowName s task (plans, small, ranges, optional) e =
     let plan = passes (plan_with s.plan) _ task e in
-    subst IsSoundTask (same_ok plan.rest) (of_plan_with s.plan plan.value are.plan plan.is)
-of_task Split s task are e = of_split s.plan.frames s.id task e
-of_task Check s task are e =
+    subst IsSoundTask (same_ok plan.rest) (of_plan_with s.plan plan.value plans plan.is)
+of_task SplitName s task are e = of_split s.plan.frames s.id task e
+of_task CheckName s task (plans, small, ranges, optional) e =
     let plan = passes (plan_with s.plan) _ task e in
-    subst IsSoundTask (same_ok plan.rest) (of_plan_with s.plan plan.value are.plan plan.is)
-of_task Rebuild s task are e =
+    subst IsSoundTask (same_ok plan.rest) (of_plan_with s.plan plan.value plans plan.is)
+of_task RebuildName s task (plans, (half, lose, port), ranges, optional) e =
     let plan = passes (plan_with s.plan) _ task e in
-    subst IsSoundTask (same_ok plan.rest) (of_plan_with s.plan plan.value are.plan plan.is, are.half)
-of_task Exercise s task are e = subst IsSoundTask (same_ok e) (are.items.0, are.items.1, are.lose)
-of_task Realign s task are e = subst IsSoundTask (same_ok e) tt
-of_task Ring s task are e = of_ring s.buffer.size task are.buffer e
-of_task Unring s task are e = of_unring s.buffer.size s.buffer.pointer s.buffer.full task are.buffer e
-of_task TextName s task are e =
+    subst IsSoundTask (same_ok plan.rest) (of_plan_with s.plan plan.value plans plan.is, half)
+of_task ExerciseName s task (plans, (half, lose, port), (limit, items, hold, depth), optional) e =
+    subst IsSoundTask (same_ok e) (items.0, items.1, lose)
+of_task RealignName s task are e = subst IsSoundTask (same_ok e) tt
+of_task RingName s task (plans, small, ranges, (size, order, hz)) e = of_ring s.size task size e
+of_task UnringName s task (plans, small, ranges, (size, order, hz)) e = of_unring s.size s.pointer s.full task size e
+of_task TextName s task (plans, (half, lose, port), ranges, optional) e =
     let plan = passes (plan_of_one TextNeedsItm TextReadsOneSource s.plan.itm s.plan) _ task e in
-    let one = of_one TextNeedsItm TextReadsOneSource s.plan.itm s.plan plan.value are.plan.0 plan.is in
-    subst IsSoundTask (same_ok plan.rest) (one, are.port)
-of_task Vcd s task are e =
+    let one = of_one TextNeedsItm TextReadsOneSource s.plan.itm s.plan plan.value plans.0 plan.is in
+    subst IsSoundTask (same_ok plan.rest) (one, port)
+of_task VcdName s task (plans, small, ranges, (size, order, hz)) e =
     let plan = passes (plan_of_one VcdNeedsItm VcdReadsOneSource s.plan.itm s.plan) _ task e in
-    let one = of_one VcdNeedsItm VcdReadsOneSource s.plan.itm s.plan plan.value are.plan.0 plan.is in
-    subst IsSoundTask (same_ok plan.rest) (one, are.hz)
-of_task Funnel s task are e =
+    let one = of_one VcdNeedsItm VcdReadsOneSource s.plan.itm s.plan plan.value plans.0 plan.is in
+    subst IsSoundTask (same_ok plan.rest) (one, hz)
+of_task FunnelName s task (plans, (half, lose, port), (limit, items, hold, depth), (size, order, hz)) e =
     let plan = passes (plan_with s.plan) _ task e in
-    let turns = passes (turns_with s.turns) _ task plan.rest in
-    let sound = of_plan_with s.plan plan.value are.plan plan.is in
-    subst IsSoundTask (same_ok turns.rest) (sound, are.half, of_turns_with s.turns turns.value are.turns turns.is)
+    let turns = passes (turns_with s.order s.hold s.depth) _ task plan.rest in
+    let sound = of_plan_with s.plan plan.value plans plan.is in
+    subst IsSoundTask (same_ok turns.rest)
+    (sound, half, of_turns_with s.order s.hold s.depth turns.value order hold depth turns.is)
 
 abbrev IsSoundJob : Job → Type 0
 IsSoundJob job = Between 1 GREATEST_LIMIT job.limit × IsSoundTask job.task
@@ -307,6 +331,6 @@ sound rows job told e same =
     let name = passes (action_in rows) _ job e in
     let settings = passes (settings_in rows) _ job name.rest in
     let task = passes (task_with name.value settings.value) _ job settings.rest in
-    let are = of_settings rows settings.value settings.is in
+    let are = of_all rows ALL_OPTIONS defaults settings.value by_default settings.is in
     subst IsSoundJob (let it : job ≡ told = cc in same_ok task.rest ∙ it)
-    (are.limit, of_task name.value settings.value task.value are task.is)
+    (are.2.0, of_task name.value settings.value task.value are task.is)

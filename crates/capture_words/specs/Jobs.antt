@@ -16,7 +16,6 @@ use Rattle.capture_words.specs.declared.job.Task.TheVariants.{Show, Split, Check
 use Rattle.capture_words.specs.declared.job.Task.TheVariants.{Realign, Ring, Unring, Text, Funnel, Vcd}
 use Rattle.capture_words.specs.declared.job.Job.{Job}
 use Rattle.capture_words.specs.declared.settings.Settings.{Settings}
-use Rattle.capture_words.specs.declared.settings.TurnSettings.{TurnSettings}
 use Rattle.capture_words.specs.declared.usage.UsageFault.{UsageFault}
 use Rattle.capture_words.specs.declared.usage.UsageFault.TheVariants.{SplitNeedsId, MappedTwice, RingNeedsSize}
 use Rattle.capture_words.specs.declared.usage.UsageFault.TheVariants.{UnringNeedsSize, PointerNotUnderSize}
@@ -75,9 +74,8 @@ abbrev pub order_with : Option (List ℕ) → Result (List ℕ) UsageFault
 order_with None = Err FunnelNeedsOrder
 order_with (Some order) = fault_or (option_map OrderedTwice (again_after [] order)) order
 
-abbrev pub turns_with : TurnSettings → Result Turns UsageFault
-turns_with settings = order_with settings.order >>= (λ order.
-    Ok (record { order = order; hold = settings.hold; depth = settings.depth }))
+abbrev pub turns_with : Option (List ℕ) → ℕ → ℕ → Result Turns UsageFault
+turns_with given hold depth = order_with given >>= (λ order. Ok (record { order = order; hold = hold; depth = depth }))
 
 -- the task of an action with what it needs of the options
 abbrev pub task_with : ActionName → Settings → Result Task UsageFault
@@ -87,14 +85,15 @@ task_with CheckName s = plan_with s.plan >>= (λ plan. Ok (Check plan s.recover 
 task_with RebuildName s = plan_with s.plan >>= (λ plan. Ok (Rebuild plan s.sync s.half))
 task_with ExerciseName s = Ok (Exercise s.items s.lose)
 task_with RealignName s = Ok Realign
-task_with RingName s = ring_with s.buffer.size
-task_with UnringName s = unring_with s.buffer.size s.buffer.pointer s.buffer.full
+task_with RingName s = ring_with s.size
+task_with UnringName s = unring_with s.size s.pointer s.full
 task_with TextName s =
     plan_of_one TextNeedsItm TextReadsOneSource s.plan.itm s.plan >>= (λ plan. Ok (Text plan s.port s.recover))
 task_with VcdName s =
     plan_of_one VcdNeedsItm VcdReadsOneSource s.plan.itm s.plan >>= (λ plan. Ok (Vcd plan s.hz s.recover))
 task_with FunnelName s =
-    plan_with s.plan >>= (λ plan. turns_with s.turns >>= (λ turns. Ok (Funnel plan s.sync s.half turns)))
+    plan_with s.plan >>= (λ plan.
+    turns_with s.order s.hold s.depth >>= (λ turns. Ok (Funnel plan s.sync s.half turns)))
 
 -- The first fault of the action's name, of the options' values in the order of the command, and of what the
 -- action needs; and where there is none, the job. An option that the action doesn't use has no effect.

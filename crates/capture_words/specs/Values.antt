@@ -4,11 +4,6 @@ use Rattle.std.specs.Prelude.{[], ◌∷◌, ok_or, option_and_then, option_map,
 use Rattle.std.specs.Str.{bytes_eq}
 use Rattle.std.specs.List.{before_first, after_first, slice_split}
 use Rattle.clap.specs.Words.{Text, Row, first_of}
-use Rattle.trace_values.specs.ReadingModes.{frames_named, packets_named}
-use Rattle.trace_values.specs.declared.reading_modes.FramesMode.{FramesMode}
-use Rattle.trace_values.specs.declared.reading_modes.FramesMode.TheVariants.{Hunt as FramesHunt}
-use Rattle.trace_values.specs.declared.reading_modes.PacketsMode.{PacketsMode}
-use Rattle.trace_values.specs.declared.reading_modes.PacketsMode.TheVariants.{Hunt as PacketsHunt}
 use Rattle.stp_grammar.specs.declared.packet.Order.{Order}
 use Rattle.stp_grammar.specs.declared.packet.Order.TheVariants.{Msn, Lsn}
 use Rattle.item_tap.specs.declared.bounds.Bounds.{Bounds}
@@ -18,19 +13,10 @@ use Rattle.item_tap.specs.declared.choice.Kind.{Kind}
 use Rattle.item_tap.specs.declared.choice.Kind.TheVariants.{Itm as ItmKind, Dwt as DwtKind, Stp as StpKind}
 use Rattle.item_tap.specs.declared.choice.Kind.TheVariants.{Raw as RawKind, Trigger as TriggerKind}
 use Rattle.decimal_words.specs.Numbers.{number_named, number_after}
-use Rattle.capture_words.specs.declared.values.TheConstants.{GREATEST_LIMIT, LEAST_SIZE, GREATEST_SIZE}
-use Rattle.capture_words.specs.declared.values.TheConstants.{GREATEST_POINTER}
-use Rattle.capture_words.specs.Command.{option_name}
-use Rattle.capture_words.specs.declared.option.CommandOption.{CommandOption}
-use Rattle.capture_words.specs.declared.option.CommandOption.TheVariants.{Frames, Packets, Itm, Stp, StpOrder, Id}
-use Rattle.capture_words.specs.declared.option.CommandOption.TheVariants.{Only, Window, Sync, Half, Limit, Items}
-use Rattle.capture_words.specs.declared.option.CommandOption.TheVariants.{Lose, Size, Pointer, Full, Port as PortOption}
-use Rattle.capture_words.specs.declared.option.CommandOption.TheVariants.{Recover as RecoverOption}
-use Rattle.capture_words.specs.declared.option.CommandOption.TheVariants.{Order as OrderOption, Hold, Depth, Hz, Kinds}
 use Rattle.capture_words.specs.declared.recover.Recover.{Recover}
 use Rattle.capture_words.specs.declared.recover.Recover.TheVariants.{Off, On, Near}
 use Rattle.capture_words.specs.declared.usage.UsageFault.{UsageFault}
-use Rattle.capture_words.specs.declared.usage.UsageFault.TheVariants.{UnknownAction, BadValue}
+use Rattle.capture_words.specs.declared.usage.UsageFault.TheVariants.{UnknownAction}
 use Rattle.capture_words.specs.declared.values.ActionName.{ActionName}
 use Rattle.capture_words.specs.declared.values.ActionName.TheVariants.{Show, Split, Check, Rebuild, Exercise}
 use Rattle.capture_words.specs.declared.values.ActionName.TheVariants.{Realign, Ring, Unring, Text as TextName, Funnel}
@@ -101,24 +87,8 @@ abbrev pub window_named : Text → Option Bounds
 window_named text =
     bounds_of (choice_named (before_first (λ c. c == 44) text)) (choice_named (after_first (λ c. c == 44) text))
 
--- what an option says: its default where it is absent, and else what its text names. Where that is nothing, its
--- value is bad
-abbrev pub value_of : {T : Type 0} → T → (Text → Option T) → Option Text → Option T
-value_of default named None = Some default
-value_of default named (Some text) = named text
-
-abbrev pub option_in : {T : Type 0} → CommandOption → T → (Text → Option T) → List Row → Result T UsageFault
-option_in option default named rows =
-    ok_or (value_of default named (first_of (option_name option) rows)) (BadValue option)
-
 abbrev pub action_in : List Row → Result ActionName UsageFault
 action_in rows = ok_or (option_and_then action_named (first_of (codes "action") rows)) UnknownAction
-
-abbrev pub frames_in : List Row → Result FramesMode UsageFault
-frames_in = option_in Frames FramesHunt frames_named
-
-abbrev pub packets_in : List Row → Result PacketsMode UsageFault
-packets_in = option_in Packets PacketsHunt packets_named
 
 -- all values, where there is each
 abbrev pub each : {T : Type 0} → List (Option T) → Option (List T)
@@ -136,56 +106,11 @@ parts_named named most text = option_and_then (at_most most) (each (map named (s
 abbrev pub ids_named : ℕ → ℕ → Text → Option (List ℕ)
 ids_named most greatest = parts_named (number_named 1 greatest) most
 
--- an option whose value is a number within these bounds, and none by default
-abbrev pub number_if_given : CommandOption → ℕ → ℕ → List Row → Result (Option ℕ) UsageFault
-number_if_given option least greatest =
-    option_in option None (λ text. option_map Some (number_named least greatest text))
-
--- the IDs of the ITM sources and those of the STP sources, up to eight that can be mapped, none by default
-abbrev pub itm_in : List Row → Result (List ℕ) UsageFault
-itm_in = option_in Itm [] (ids_named 8 111)
-
-abbrev pub stp_in : List Row → Result (List ℕ) UsageFault
-stp_in = option_in Stp [] (ids_named 8 111)
-
-abbrev pub order_in : List Row → Result Order UsageFault
-order_in = option_in StpOrder Msn order_named
-
--- the ID that is taken is 0 to 126
-abbrev pub id_in : List Row → Result (Option ℕ) UsageFault
-id_in = number_if_given Id 0 126
-
 -- the choices that a text names
 abbrev pub choices_named : Text → Option (List Choice)
 choices_named = parts_named choice_named 8
 
--- which events are listed; all are by default
-abbrev pub only_in : List Row → Result (Option (List Choice)) UsageFault
-only_in = option_in Only None (λ text. option_map Some (choices_named text))
-
--- from which event to which the listing goes; over all by default
-abbrev pub window_in : List Row → Result (Option Bounds) UsageFault
-window_in = option_in Window None (λ text. option_map Some (window_named text))
-
--- an option whose value is a number within these bounds
-abbrev pub number_given : CommandOption → ℕ → ℕ → ℕ → List Row → Result ℕ UsageFault
-number_given option default least greatest = option_in option default (number_named least greatest)
-
--- a full synchronisation before each 64 frames, if nothing else is said, and none for 0; no half synchronisations
-abbrev pub sync_in : List Row → Result ℕ UsageFault
-sync_in = number_given Sync 64 0 1000000
-
-abbrev pub half_in : List Row → Result ℕ UsageFault
-half_in = number_given Half 0 0 8
-
--- 12,000 items, and no byte lost, if nothing else is said
-abbrev pub items_in : List Row → Result ℕ UsageFault
-items_in = number_given Items 12000 1 1000000
-
-abbrev pub lose_in : List Row → Result ℕ UsageFault
-lose_in = number_given Lose 0 0 1000000
-
--- whether reading goes on after a fault; it does not if nothing else is said
+-- whether a text says that reading goes on after a fault
 abbrev pub recover_named : Text → Option Recover
 recover_named text =
     if bytes_eq text (codes "off") then Some Off
@@ -199,44 +124,7 @@ guesses_of Off = None
 guesses_of On = Some false
 guesses_of Near = Some true
 
-abbrev pub recover_in : List Row → Result Recover UsageFault
-recover_in = option_in RecoverOption Off recover_named
-
--- a trace buffer's size in bytes, its write pointer, and whether it is full
-abbrev pub size_in : List Row → Result (Option ℕ) UsageFault
-size_in = number_if_given Size LEAST_SIZE GREATEST_SIZE
-
-abbrev pub pointer_in : List Row → Result ℕ UsageFault
-pointer_in = number_given Pointer 0 0 GREATEST_POINTER
-
-abbrev pub full_in : List Row → Result Bool UsageFault
-full_in = option_in Full false bit_named
-
--- the order of the turns of a funnel's sources, up to sixteen; how many bytes a turn gives and a queue has at most
-abbrev pub turn_order_in : List Row → Result (Option (List ℕ)) UsageFault
-turn_order_in = option_in OrderOption None (λ text. option_map Some (ids_named 16 126 text))
-
-abbrev pub hold_in : List Row → Result ℕ UsageFault
-hold_in = number_given Hold 4 1 15
-
-abbrev pub depth_in : List Row → Result ℕ UsageFault
-depth_in = number_given Depth 256 1 4096
-
--- the stimulus port whose bytes are written, 0 by default
-abbrev pub port_in : List Row → Result ℕ UsageFault
-port_in = number_given PortOption 0 0 31
-
--- how many ticks of the local timestamps there are in a second
-abbrev pub hz_in : List Row → Result (Option ℕ) UsageFault
-hz_in = number_if_given Hz 1 1000000000000
-
--- whether the items of each kind are counted; they are not if nothing else is said
+-- whether a text says that the items of each kind are counted
 abbrev pub switch_named : Text → Option Bool
 switch_named text =
     if bytes_eq text (codes "off") then Some false else if bytes_eq text (codes "on") then Some true else None
-
-abbrev pub kinds_in : List Row → Result Bool UsageFault
-kinds_in = option_in Kinds false switch_named
-
-abbrev pub limit_in : List Row → Result ℕ UsageFault
-limit_in = number_given Limit GREATEST_LIMIT 1 GREATEST_LIMIT

@@ -6,7 +6,8 @@ ghost use Rattle.decimal_words.specs.Numbers.{number_after};
 ghost use Rattle.capture_words.specs.Values.{kind_named, choice_named, window_named};
 
 use crate::list::Listed;
-use decimal_words::{id_named, number_named, text_after};
+use crate::values::u8_named;
+use decimal_words::{id_named, text_after};
 use item_tap::{Bounds, Choice, Choices, Kind, MOST_CHOICES};
 use trace_values::SourceId;
 
@@ -39,10 +40,7 @@ fn place_after(front: &str, greatest: u8, text: &str) -> Option<u8>
     ensures { result ≡ number_after front.now 0 greatest text.now }
 {
     match text_after(front, text) {
-        Some(number) => match number_named(0, u64::from(greatest), number) {
-            Some(place) => Some(place as u8),
-            None => None,
-        },
+        Some(number) => u8_named(0, greatest, number),
         None => None,
     }
 }

@@ -7,13 +7,13 @@ ghost use Rattle.capture_words.specs.Jobs.{turns_with, task_with, job_of};
 
 use crate::ids::{first_again, mapped_twice};
 use crate::recover::Recover;
-use crate::settings::{BufferSettings, Settings, TurnSettings, settings_in};
+use crate::settings::{Settings, settings_in};
 use crate::usage::UsageFault;
 use crate::values::{ActionName, action_in};
 use clap::ArgMatches;
 use item_tap::{Bounds, Choices};
 use source_events::{Plan, SourceIds};
-use trace_funnel::Turns;
+use trace_funnel::{TurnOrder, Turns};
 use trace_values::{FramesMode, SourceId};
 
 /// What is done with a capture.
@@ -140,31 +140,29 @@ fn split_with(frames: FramesMode, id: Option<SourceId>) -> Result<Task, UsageFau
 }
 
 /// The image of a trace buffer, whose size is needed.
-fn ring_with(size: Option<usize>) -> Result<Task, UsageFault>
+fn ring_with(size: Option<u32>) -> Result<Task, UsageFault>
     ensures { result ≡ ring_with size }
 {
     match size {
-        Some(size) => Ok(Task::Ring { size }),
+        Some(size) => Ok(Task::Ring {
+            size: size as usize,
+        }),
         None => Err(UsageFault::RingNeedsSize),
     }
 }
 
 /// The bytes of an image in order. Its size is needed, and its write pointer is under it.
-fn unring_with(buffer: BufferSettings) -> Result<Task, UsageFault>
-    ensures { result ≡ unring_with buffer.size buffer.pointer buffer.full }
+fn unring_with(size: Option<u32>, pointer: u32, full: bool) -> Result<Task, UsageFault>
+    ensures { result ≡ unring_with size pointer full }
 {
-    let Some(size) = buffer.size else {
-        return Err(UsageFault::UnringNeedsSize);
-    };
-    let BufferSettings { pointer, full, .. } = buffer;
-    if pointer < size {
-        Ok(Task::Unring {
-            size,
-            pointer,
+    match size {
+        Some(size) if pointer < size => Ok(Task::Unring {
+            size: size as usize,
+            pointer: pointer as usize,
             full,
-        })
-    } else {
-        Err(UsageFault::PointerNotUnderSize)
+        }),
+        Some(_) => Err(UsageFault::PointerNotUnderSize),
+        None => Err(UsageFault::UnringNeedsSize),
     }
 }
 
@@ -186,16 +184,19 @@ fn plan_of_one(plan: Plan, none: UsageFault, more: UsageFault) -> Result<Plan, U
 }
 
 /// The turns of a funnel, whose order is needed, and in which no source stands twice.
-fn turns_with(settings: TurnSettings) -> Result<Turns, UsageFault>
-    ensures { result ≡ turns_with settings }
+fn turns_with(order: Option<TurnOrder>, hold: u8, depth: u32) -> Result<Turns, UsageFault>
+    ensures { result ≡ turns_with order hold depth }
 {
-    let TurnSettings { order, hold, depth } = settings;
     let Some(order) = order else {
         return Err(UsageFault::FunnelNeedsOrder);
     };
     match first_again(order.as_slice()) {
         Some(id) => Err(UsageFault::OrderedTwice(id)),
-        None => Ok(Turns { order, hold, depth }),
+        None => Ok(Turns {
+            order,
+            hold,
+            depth: depth as usize,
+        }),
     }
 }
 
@@ -226,8 +227,8 @@ fn task_with(name: ActionName, settings: Settings) -> Result<Task, UsageFault>
             lose: settings.lose,
         }),
         ActionName::Realign => Ok(Task::Realign),
-        ActionName::Ring => ring_with(settings.buffer.size),
-        ActionName::Unring => unring_with(settings.buffer),
+        ActionName::Ring => ring_with(settings.size),
+        ActionName::Unring => unring_with(settings.size, settings.pointer, settings.full),
         ActionName::Text => Ok(Task::Text {
             plan: plan_of_one(
                 settings.plan,
@@ -250,7 +251,7 @@ fn task_with(name: ActionName, settings: Settings) -> Result<Task, UsageFault>
             plan: plan_with(settings.plan)?,
             sync: settings.sync,
             half: settings.half,
-            turns: turns_with(settings.turns)?,
+            turns: turns_with(settings.order, settings.hold, settings.depth)?,
         }),
     }
 }
