@@ -4,6 +4,7 @@ pub mod Segments
 pub mod Versions
 pub mod Routed
 pub mod Encoding
+pub mod Spending
 pub mod Writer
 pub mod ScriptLaws
 pub mod Rebuilt

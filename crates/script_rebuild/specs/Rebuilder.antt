@@ -1,7 +1,8 @@
 -- What the action stands for.
 use Rattle.std.specs.Prelude.{◌≡◌, ℕ, List, [], ◌∷◌, ◌++◌, length, Option, None, Some, is_some, option_map, Bool, true}
-use Rattle.std.specs.Prelude.{false}
-use Rattle.script_rebuild.specs.Names.{all_but_last, LineFault, Debt, owing, with_debt, HasTaken}
+use Rattle.std.specs.Prelude.{false, ◌+◌, ◌≤◌}
+use Rattle.script_rebuild.specs.Names.{all_but_last, LineFault, Debt, Paid, owing, with_debt, HasTaken}
+use Rattle.script_rebuild.specs.Names.{GREATEST_CAPTURE, OUTLET_ROOM, ACTION_ROOM}
 use Rattle.trace_stream.specs.Owed.{last_of}
 use Rattle.script_rebuild.specs.Writer as writers
 use Rattle.script_rebuild.specs.declared.plan.RebuildPlan.{RebuildPlan}
@@ -35,6 +36,18 @@ debt_with (Some owed) kept = owing (last_of owed kept) owed
 
 abbrev pub debt_of : Rebuild → Debt
 debt_of r = debt_with r.owed (writers.kept_by r.writer)
+
+-- it has given away all that it kept, and may take so many bytes more and put what they say after what is pending
+pub record MayTake (r : Rebuild) (bytes : ℕ) (pending : List ℕ) : Type 0 where
+  pub live : IsLive r
+  pub paid : writers.debt_of r.writer ≡ Paid
+  pub count : r.count + bytes ≤ GREATEST_CAPTURE
+  pub room : length pending + ACTION_ROOM ≤ OUTLET_ROOM
+
+-- so many bytes more were taken, by the same plan
+pub record HasMoved (old new : Rebuild) (bytes : ℕ) : Type 0 where
+  pub same : plan_of new ≡ plan_of old
+  pub count : taken_by new ≡ taken_by old + bytes
 
 -- how many bytes of the open line it keeps
 abbrev pub open_len : Rebuild → ℕ

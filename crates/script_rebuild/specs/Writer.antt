@@ -33,6 +33,11 @@ HasRoom w pairs = formatters.HasRoom w.formatter pairs
 abbrev pub debt_of : LineWriter → Debt
 debt_of w = formatters.debt_of w.formatter
 
+-- it is for the same sources, and writes their numbers in the same order of nibbles
+pub record HasSources (old new : LineWriter) : Type 0 where
+  pub stp : stp_of new ≡ stp_of old
+  pub order : order_of new ≡ order_of old
+
 -- a line that can be put: what it says is in its ranges, and of a source of it
 abbrev pub CanBePut : List ℕ → Line → Type 0
 CanBePut stp Nothing = Unit {0}

@@ -2,11 +2,12 @@
 
 ghost use Rattle.std.specs.Prelude.{◌≡◌, ◌≤◌, ◌<◌, ◌+◌, ◌*◌, ◌==◌, ℕ, List, length, true, position};
 ghost use Rattle.std.specs.Result.{OnErr};
-ghost use Rattle.script_rebuild.specs.Names.{COUNT_ROOM, short, Order, Put, Puts, has_place, Stp, Of, Line2, One};
+ghost use Rattle.script_rebuild.specs.Names.{short, Order, Put, Puts, has_place, Stp, Of, Line2, One};
 ghost use Rattle.script_rebuild.specs.Names.{IsSayable};
 ghost use Rattle.itm_grammar.specs.Proper.{IsProper};
 ghost use Rattle.stp_grammar.specs.Proper.{IsProperItem};
-ghost use Rattle.port_formatter.specs.Formatter.{HasRoom, count_of, turns_of};
+ghost use Rattle.port_formatter.specs.Formatter.{turns_of};
+ghost use Rattle.script_rebuild.specs.Spending.{CanSpend, Spends};
 ghost use Rattle.script_rebuild.specs.Routed.{is_placed, placed, line_if};
 ghost use Rattle.script_rebuild.specs.Script.{tagged};
 ghost use Rattle.script_rebuild.specs.Encoding.{ids_in, NextItem, Left, AreReady, Answers, line_for};
@@ -26,12 +27,9 @@ fn put_packet(formatter: &mut Formatter, id: SourceId, packet: &ItmPacket)
     requires proper { IsProper packet.now }
     requires source { 0 < id }
     requires place { has_place (turns_of formatter.old) id ≡ true }
-    requires count { count_of formatter.old + 100 ≤ COUNT_ROOM }
-    requires room { HasRoom formatter.old 200 }
-    ensures turns { turns_of formatter.new ≡ turns_of formatter.old }
+    requires room { CanSpend 200 formatter.old }
     ensures put { Puts formatter.old formatter.new (tagged id (short packet.now)) }
-    ensures count { count_of formatter.new ≤ count_of formatter.old + 100 }
-    ensures room { (more : ℕ) → HasRoom formatter.old (200 + more) → HasRoom formatter.new more }
+    ensures spent { Spends 200 formatter.old formatter.new }
 {
     let mut packed = ArrayVec::new();
     encode(packet, &mut packed);
@@ -57,17 +55,14 @@ fn put_stp(
     requires proper { IsProperItem item.now }
     requires source { 0 < id }
     requires place { has_place (turns_of formatter.old) id ≡ true }
-    requires count { count_of formatter.old + 100 ≤ COUNT_ROOM }
-    requires room { HasRoom formatter.old 200 }
+    requires room { CanSpend 200 formatter.old }
     ensures ids { ids_in encoders.new ≡ ids_in encoders.old }
-    ensures turns { turns_of formatter.new ≡ turns_of formatter.old }
     ensures same { OnErr result ((encoders.new ≡ encoders.old) × (formatter.new ≡ formatter.old)) }
     ensures puts { (order : Order) (given : ℕ → List Put) →
         let next : NextItem = record { order = order; given = given; id = id; item = Stp item.now } in
         let left : Left = record { encoders = encoders.new; old = formatter.old; new = formatter.new } in
         AreReady next encoders.old → Answers (turns_of formatter.old) next result left }
-    ensures count { count_of formatter.new ≤ count_of formatter.old + 100 }
-    ensures room { (more : ℕ) → HasRoom formatter.old (200 + more) → HasRoom formatter.new more }
+    ensures spent { Spends 200 formatter.old formatter.new }
 {
     let Some(index) = find(encoders, id) else {
         return Err(LineFault::Unfit);
@@ -146,17 +141,14 @@ pub(crate) fn put_item(
 ) -> Result<(), LineFault>
     requires sayable { IsSayable item.now }
     requires source { 0 < id }
-    requires count { count_of formatter.old + 100 ≤ COUNT_ROOM }
-    requires room { HasRoom formatter.old 200 }
+    requires room { CanSpend 200 formatter.old }
     ensures ids { ids_in encoders.new.items ≡ ids_in encoders.old.items }
-    ensures turns { turns_of formatter.new ≡ turns_of formatter.old }
     ensures same { OnErr result ((encoders.new.items ≡ encoders.old.items) × (formatter.new ≡ formatter.old)) }
     ensures puts { (order : Order) (given : ℕ → List Put) →
         let next : NextItem = record { order = order; given = given; id = id; item = item.now } in
         let left : Left = record { encoders = encoders.new.items; old = formatter.old; new = formatter.new } in
         AreReady next encoders.old.items → Answers (turns_of formatter.old) next result left }
-    ensures count { count_of formatter.new ≤ count_of formatter.old + 100 }
-    ensures room { (more : ℕ) → HasRoom formatter.old (200 + more) → HasRoom formatter.new more }
+    ensures spent { Spends 200 formatter.old formatter.new }
 {
     if !formatter.takes(id) {
         return item_fits(encoders, formatter, id, item);

@@ -4,11 +4,12 @@ ghost use Rattle.std.specs.Prelude.{◌≡◌, ◌≢◌, ◌≤◌, ◌<◌, �
 ghost use Rattle.std.specs.Prelude.{false, true, None, Err, option_map, is_some};
 ghost use Rattle.std.specs.Option.{ForSome};
 ghost use Rattle.std.specs.Result.{IfOk, OnErr};
-ghost use Rattle.script_rebuild.specs.Names.{BadLine, COUNT_ROOM, Paid, GREATEST_CAPTURE, OUTLET_ROOM, ACTION_ROOM};
+ghost use Rattle.script_rebuild.specs.Names.{BadLine, Paid, GREATEST_CAPTURE, OUTLET_ROOM, ACTION_ROOM};
 ghost use Rattle.script_rebuild.specs.Names.{Line2, line_of};
 ghost use Rattle.trace_funnel.specs.SoundTurns.{IsSoundTurns};
 ghost use Rattle.script_rebuild.specs.Versions.{says};
-ghost use Rattle.script_rebuild.specs.Writer.{count_of, kept_by, HasRoom, CanBePut2, Stands as StandsForLines};
+ghost use Rattle.script_rebuild.specs.Spending.{CanSpend, Spends};
+ghost use Rattle.script_rebuild.specs.Writer.{count_of, kept_by, CanBePut2, Stands as StandsForLines};
 ghost use Rattle.script_rebuild.specs.Writer.{debt_of as debt_of_writer};
 ghost use Rattle.script_rebuild.specs.PutLine.{PutsText, AnswersTo, IsFor, IsText, fits_after, says_placed};
 ghost use Rattle.script_rebuild.specs.Rebuilt.{port_of};
@@ -114,14 +115,12 @@ fn put_line(
 ) -> Result<(), LineFault>
     requires text { IsText text.now found.now }
     requires plan { IsFor plan.now writer.old }
-    requires count { count_of writer.old + 100 ≤ COUNT_ROOM }
-    requires room { HasRoom writer.old 200 }
+    requires room { CanSpend 200 writer.old.formatter }
     ensures plan { IsFor plan.now writer.new }
     ensures same { OnErr result (writer.new ≡ writer.old) }
     ensures puts { (lines : List Line2) → StandsForLines writer.old (port_of plan.now) lines →
         PutsText plan.now version text.now writer.old writer.new lines result }
-    ensures count { count_of writer.new ≤ count_of writer.old + 100 }
-    ensures room { (more : ℕ) → HasRoom writer.old (200 + more) → HasRoom writer.new more }
+    ensures spent { Spends 200 writer.old.formatter writer.new.formatter }
 {
     if let Some(found) = found {
         if let Some(SourceKind::Itm) = plan.plan.kind_of(found.id) {
@@ -152,7 +151,7 @@ impl Rebuild {
     ghost use Rattle.script_rebuild.specs.Rebuilt.{routed_so_far, routed_script};
     ghost use Rattle.port_formatter.specs.Formatter as formatters;
     ghost use Rattle.script_rebuild.specs.Rebuilder.{told, plan_of, taken_by, debt_of, open_len, IsLive, Reads, Stands};
-    ghost use Rattle.script_rebuild.specs.Rebuilder.{HasEnded, TakesByte, IsOpen, Feeds};
+    ghost use Rattle.script_rebuild.specs.Rebuilder.{HasEnded, HasMoved, IsOpen, Feeds, MayTake, TakesByte};
 
     /// Nothing is read yet, and no funnel is before the port.
     pub fn new(plan: RebuildPlan) -> Rebuild
@@ -271,9 +270,8 @@ impl Rebuild {
     fn add_front(&mut self, piece: &[u8]) -> usize
         requires live { IsLive self.old }
         requires count { taken_by self.old + length piece.now ≤ GREATEST_CAPTURE }
-        ensures same { plan_of self.new ≡ plan_of self.old }
+        ensures moved { HasMoved self.old self.new result }
         ensures live { IsLive self.new }
-        ensures count { taken_by self.new ≡ taken_by self.old + result }
         ensures bound { result ≤ length piece.now }
         ensures reads { (seen : List ℕ) → Reads self.old seen → Reads self.new (seen ++ take result piece.now) }
         ensures read { (seen : List ℕ) → Reads self.old seen →
@@ -290,13 +288,9 @@ impl Rebuild {
 
     /// Takes a byte after a front: a line feed, or one with which the line is too long. Answers whether it has a fault.
     fn take_byte(&mut self, byte: u8, outlet: &mut Outlet) -> bool
-        requires live { IsLive self.old }
-        requires paid { debt_of_writer self.old.writer ≡ Paid }
+        requires ready { MayTake self.old 1 outlet.old }
         requires last { byte ≢ 10 → open_len self.old ≡ 256 }
-        requires room { length outlet.old + ACTION_ROOM ≤ OUTLET_ROOM }
-        requires count { taken_by self.old < GREATEST_CAPTURE }
-        ensures same { plan_of self.new ≡ plan_of self.old }
-        ensures count { taken_by self.new ≡ taken_by self.old + 1 }
+        ensures moved { HasMoved self.old self.new 1 }
         ensures taken { (seen : List ℕ) → Reads self.old seen →
             TakesByte self.old self.new seen byte outlet.old outlet.new }
         ensures reading { self.new.owed ≡ None }
@@ -319,13 +313,9 @@ impl Rebuild {
     /// A line of this text is at its end: what it says is put, or its fault is kept. Answers whether it has one.
     #[inline(always)]
     fn end_line(&mut self, text: &[u8], found: &Option<PacketLine>, outlet: &mut Outlet) -> bool
-        requires live { IsLive self.old }
-        requires paid { debt_of_writer self.old.writer ≡ Paid }
+        requires ready { MayTake self.old 1 outlet.old }
         requires text { IsText text.now found.now }
-        requires room { length outlet.old + ACTION_ROOM ≤ OUTLET_ROOM }
-        requires count { taken_by self.old < GREATEST_CAPTURE }
-        ensures same { plan_of self.new ≡ plan_of self.old }
-        ensures count { taken_by self.new ≡ taken_by self.old + 1 }
+        ensures moved { HasMoved self.old self.new 1 }
         ensures taken { (mid : Rebuild) (seen : List ℕ) → IsOpen mid self.old text.now → Reads mid seen →
             TakesByte mid self.new seen 10 outlet.old outlet.new }
         ensures reading { self.new.owed ≡ None }
@@ -358,13 +348,10 @@ impl Rebuild {
         found: &Option<PacketLine>,
         outlet: &mut Outlet,
     ) -> Progress
-        requires live { IsLive self.old }
-        requires paid { debt_of_writer self.old.writer ≡ Paid }
+        requires ready { MayTake self.old (length text.now + 1) outlet.old }
         requires closed { open_len self.old ≡ 0 }
         requires text { IsText text.now found.now }
         requires plain { All (λ b. (b == 10) ≡ false) text.now }
-        requires room { length outlet.old + ACTION_ROOM ≤ OUTLET_ROOM }
-        requires count { taken_by self.old + length text.now < GREATEST_CAPTURE }
         ensures bytes { result.bytes ≡ length text.now + 1 }
         ensures count { taken_by self.new ≡ taken_by self.old + result.bytes }
         ensures fed { Feeds self.old self.new (text.now ++ 10 ∷ []) outlet.old outlet.new result.is_faulty }
@@ -379,11 +366,8 @@ impl Rebuild {
 
     /// Takes more of the open line: the bytes up to a line feed, and that.
     fn feed_open(&mut self, piece: &[u8], outlet: &mut Outlet) -> Progress
-        requires live { IsLive self.old }
-        requires paid { debt_of_writer self.old.writer ≡ Paid }
+        requires ready { MayTake self.old (length piece.now) outlet.old }
         requires some { 0 < length piece.now }
-        requires room { length outlet.old + ACTION_ROOM ≤ OUTLET_ROOM }
-        requires count { taken_by self.old + length piece.now ≤ GREATEST_CAPTURE }
         ensures front { TakesSome piece.now result.bytes }
         ensures count { taken_by self.new ≡ taken_by self.old + result.bytes }
         ensures fed { Feeds self.old self.new (take result.bytes piece.now) outlet.old outlet.new result.is_faulty }

@@ -41,14 +41,15 @@ fn trigger_source(formatter: &Formatter) -> Result<SourceId, LineFault>
 }
 
 impl LineWriter {
-    ghost use Rattle.script_rebuild.specs.Names.{COUNT_ROOM, Port, no_segments, Line2, One, Flush, Trigger, Paid};
+    ghost use Rattle.script_rebuild.specs.Names.{Port, no_segments, Line2, One, Flush, Trigger, Paid};
     ghost use Rattle.script_rebuild.specs.Names.{Pours, OUTLET_ROOM, ACTION_ROOM};
     ghost use Rattle.port_formatter.specs.declared.straight.TheConstants.{KEPT_ROOM};
     ghost use Rattle.script_rebuild.specs.Routed.{puttable, line_if};
     ghost use Rattle.script_rebuild.specs.Script.{in_order};
     ghost use Rattle.script_rebuild.specs.PutLine.{PutsAfter, Flushes};
+    ghost use Rattle.script_rebuild.specs.Spending.{CanSpend, Spends};
     ghost use Rattle.script_rebuild.specs.Writer.{stp_of, order_of, turns_of, kept_by, count_of, debt_of, HasRoom};
-    ghost use Rattle.script_rebuild.specs.Writer.{CanBePut, CanBePut2, Stands};
+    ghost use Rattle.script_rebuild.specs.Writer.{CanBePut, CanBePut2, HasSources, Stands};
 
     /// A writer of no line, over a formatter that was given nothing. The items of system traces are those of the sources
     /// `stp`, and their numbers are written in this order of their nibbles.
@@ -98,16 +99,12 @@ impl LineWriter {
     #[inline(always)]
     pub fn put(&mut self, line: &Line) -> Result<(), LineFault>
         requires said { CanBePut (stp_of self.old) line.now }
-        requires count { count_of self.old + 100 ≤ COUNT_ROOM }
-        requires room { HasRoom self.old 200 }
-        ensures stp { stp_of self.new ≡ stp_of self.old }
-        ensures order { order_of self.new ≡ order_of self.old }
-        ensures turns { turns_of self.new ≡ turns_of self.old }
+        requires room { CanSpend 200 self.old.formatter }
+        ensures sources { HasSources self.old self.new }
         ensures puts { (port : Port) (lines : List Line2) → Stands self.old port lines →
             PutsAfter self.old self.new port lines (One line.now) result }
         ensures same { OnErr result (self.new ≡ self.old) }
-        ensures count { count_of self.new ≤ count_of self.old + 100 }
-        ensures room { (more : ℕ) → HasRoom self.old (200 + more) → HasRoom self.new more }
+        ensures spent { Spends 200 self.old.formatter self.new.formatter }
     {
         match line {
             Line::Nothing => Ok(()),
@@ -123,16 +120,12 @@ impl LineWriter {
     #[inline(never)]
     pub fn put2(&mut self, line: &Line2) -> Result<(), LineFault>
         requires said { CanBePut2 (stp_of self.old) line.now }
-        requires count { count_of self.old + 100 ≤ COUNT_ROOM }
-        requires room { HasRoom self.old 200 }
-        ensures stp { stp_of self.new ≡ stp_of self.old }
-        ensures order { order_of self.new ≡ order_of self.old }
-        ensures turns { turns_of self.new ≡ turns_of self.old }
+        requires room { CanSpend 200 self.old.formatter }
+        ensures sources { HasSources self.old self.new }
         ensures puts { (port : Port) (lines : List Line2) → Stands self.old port lines →
             PutsAfter self.old self.new port lines line.now result }
         ensures same { OnErr result (self.new ≡ self.old) }
-        ensures count { count_of self.new ≤ count_of self.old + 100 }
-        ensures room { (more : ℕ) → HasRoom self.old (200 + more) → HasRoom self.new more }
+        ensures spent { Spends 200 self.old.formatter self.new.formatter }
     {
         match line {
             Line2::One(line) => self.put(line),
@@ -152,15 +145,11 @@ impl LineWriter {
     /// order of their sources' IDs, and keeps what has become sure. Then all that is written so far is sure: so this
     /// gives the rest of the capture, once the lines are at their end.
     pub fn flush(&mut self)
-        requires count { count_of self.old + 100 ≤ COUNT_ROOM }
-        requires room { HasRoom self.old 23 }
-        ensures stp { stp_of self.new ≡ stp_of self.old }
-        ensures order { order_of self.new ≡ order_of self.old }
-        ensures turns { turns_of self.new ≡ turns_of self.old }
+        requires room { CanSpend 23 self.old.formatter }
+        ensures sources { HasSources self.old self.new }
         ensures puts { (port : Port) (lines : List Line2) → Stands self.old port lines →
             Flushes self.old self.new port lines }
-        ensures count { count_of self.new ≤ count_of self.old + 100 }
-        ensures room { (more : ℕ) → HasRoom self.old (23 + more) → HasRoom self.new more }
+        ensures spent { Spends 23 self.old.formatter self.new.formatter }
     {
         self.encoders = put_kept(&self.encoders, &mut self.formatter);
         self.formatter.flush();
@@ -170,8 +159,7 @@ impl LineWriter {
     #[inline(always)]
     pub fn give(&mut self, outlet: &mut Outlet) -> bool
         requires room { length outlet.old + ACTION_ROOM ≤ OUTLET_ROOM }
-        ensures stp { stp_of self.new ≡ stp_of self.old }
-        ensures order { order_of self.new ≡ order_of self.old }
+        ensures sources { HasSources self.old self.new }
         ensures turns { turns_of self.new ≡ turns_of self.old }
         ensures count { count_of self.new ≡ count_of self.old }
         ensures stands { (port : Port) (lines : List Line2) → Stands self.old port lines → Stands self.new port lines }
@@ -192,8 +180,7 @@ impl LineWriter {
 
     /// Drops what is kept.
     pub fn forget(&mut self)
-        ensures stp { stp_of self.new ≡ stp_of self.old }
-        ensures order { order_of self.new ≡ order_of self.old }
+        ensures sources { HasSources self.old self.new }
         ensures turns { turns_of self.new ≡ turns_of self.old }
         ensures count { count_of self.new ≡ count_of self.old }
         ensures kept { kept_by self.new ≡ [] }

@@ -1,4 +1,4 @@
-use Rattle.std.proofs.Common.{◌≡◌, refl, List, length, sym, ◌∙◌, ap, subst, true, false, Ok, rules}
+use Rattle.std.proofs.Common.{◌≡◌, ◌≤◌, refl, List, length, sym, ◌∙◌, ap, subst, true, false, Ok, rules}
 use Rattle.std.specs.List.{refill}
 use Rattle.script_rebuild.specs.Names.{packet, short, Puts, has_place, Item, Itm, Dwt, Stp, Raw}
 use Rattle.port_formatter.specs.Formatter.{turns_of}
@@ -7,7 +7,11 @@ use Rattle.script_rebuild.specs.Encoding.{ids_in, NextItem, Left, AreReady, Answ
 use Rattle.script_rebuild.specs.Script.{hardware, tagged}
 use Rattle.script_rebuild.proofs.Answering.{never_put, plain_put}
 use Rattle.script_rebuild.proofs.EachEncoder.{refilled, same_count}
+use Rattle.script_rebuild.proofs.Rooms.{bytes_room, bytes_spent, nothing_spent}
 use Rattle.script_rebuild.proofs.bytes.put_item.Goals as goal
+
+pub returns-then-not-takes-clause-spent : goal.returns-then-not-takes-clause-spent
+returns-then-not-takes-clause-spent c = nothing_spent c.args.formatter.now 200
 
 pub returns-then-not-takes-clause-puts : goal.returns-then-not-takes-clause-puts
 returns-then-not-takes-clause-puts c = λ order given ready.
@@ -63,3 +67,14 @@ returns-in-Stp-clause-puts c = λ order given ready.
     subst (λ (item : Item). Answers funnel (next item) c.put_stp.result (left (refill (length old) old new))) (sym c.in-Stp.is)
     (subst (λ (l : List SourceEncoder). Answers funnel (next (Stp c.in-Stp.item)) c.put_stp.result (left l)) (sym same)
     (c.put_stp.ensures.puts order given at))
+
+pub put_all-requires-clause-room : goal.put_all-requires-clause-room
+put_all-requires-clause-room c =
+    let few : length c.as_slice.result.now ≤ 100 = search rules in
+    bytes_room c.args.formatter.now (length c.as_slice.result.now) few c.requires.room
+
+pub returns-in-Raw-clause-spent : goal.returns-in-Raw-clause-spent
+returns-in-Raw-clause-spent c =
+    let few : length c.as_slice.result.now ≤ 100 = search rules in
+    let put = c.put_all.ensures in
+    bytes_spent c.args.formatter.now c.put_all.new.self (length c.as_slice.result.now) few put.turns put.count put.room

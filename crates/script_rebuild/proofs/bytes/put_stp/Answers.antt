@@ -1,4 +1,4 @@
-use Rattle.std.proofs.Common.{◌≡◌, refl, ℕ, ◌+◌, ◌*◌, ◌≤◌, List, length, sym, ◌∙◌, ap, subst, true, false, None, arith}
+use Rattle.std.proofs.Common.{◌≡◌, refl, ℕ, ◌≤◌, List, length, sym, ◌∙◌, ap, subst, true, false, None}
 use Rattle.std.proofs.Common.{rules, position, ◌==◌}
 use Rattle.script_rebuild.specs.Names.{Order, put_bytes, Puts, Stp}
 use Rattle.port_formatter.specs.Formatter.{turns_of}
@@ -6,7 +6,7 @@ use Rattle.script_rebuild.specs.Script.{tagged}
 use Rattle.script_rebuild.specs.Encoding.{NextItem}
 use Rattle.script_rebuild.proofs.Answering.{stp_line, item_placed_by}
 use Rattle.script_rebuild.proofs.EachEncoder.{none_of, ids_kept, found_in, all_after}
-use Rattle.script_rebuild.proofs.Rooms.{less_room}
+use Rattle.script_rebuild.proofs.Rooms.{bytes_room, bytes_spent, nothing_spent}
 use Rattle.script_rebuild.proofs.bytes.put_stp.Goals as goal
 
 pub returns-in_default-clause-puts : goal.returns-in_default-clause-puts
@@ -15,22 +15,22 @@ returns-in_default-clause-puts c = λ order given ready.
     let clash : true ≡ false = sym ready.source ∙ none_of c.args.encoders.now c.args.id none in
     absurd cc
 
-pub returns-in_default-clause-room : goal.returns-in_default-clause-room
-returns-in_default-clause-room c = λ more h. less_room c.args.formatter.now (200 + more) more (omega arith) h
+pub returns-in_default-clause-spent : goal.returns-in_default-clause-spent
+returns-in_default-clause-spent c = nothing_spent c.args.formatter.now 200
 
 pub put_all-requires-clause-room : goal.put_all-requires-clause-room
 put_all-requires-clause-room c =
-    let few : length c.as_slice.result.now ≤ 24 = search rules in
-    less_room c.args.formatter.now 200 (2 * length c.as_slice.result.now) (omega (arith, few)) c.requires.room
+    let few : length c.as_slice.result.now ≤ 100 = search rules in
+    bytes_room c.args.formatter.now (length c.as_slice.result.now) few c.requires.room
 
 pub returns-in-Ok-clause-ids : goal.returns-in-Ok-clause-ids
 returns-in-Ok-clause-ids c = ids_kept c.args.encoders.now c.in-Some.index c.index-encoders-index.result c.put.new.self
 
-pub returns-in-Ok-clause-room : goal.returns-in-Ok-clause-room
-returns-in-Ok-clause-room c = λ more h.
-    let few : length c.as_slice.result.now ≤ 24 = search rules in
-    c.put_all.ensures.room more
-    (less_room c.args.formatter.now (200 + more) (2 * length c.as_slice.result.now + more) (omega (arith, few)) h)
+pub returns-in-Ok-clause-spent : goal.returns-in-Ok-clause-spent
+returns-in-Ok-clause-spent c =
+    let few : length c.as_slice.result.now ≤ 100 = search rules in
+    let put = c.put_all.ensures in
+    bytes_spent c.args.formatter.now c.put_all.new.self (length c.as_slice.result.now) few put.turns put.count put.room
 
 pub returns-in-Ok-clause-puts : goal.returns-in-Ok-clause-puts
 returns-in-Ok-clause-puts c = λ order given ready.
@@ -65,5 +65,5 @@ returns-in-Err-clause-puts c = λ order given ready.
       put = tt;
     }
 
-pub returns-in-Err-clause-room : goal.returns-in-Err-clause-room
-returns-in-Err-clause-room c = λ more h. less_room c.args.formatter.now (200 + more) more (omega arith) h
+pub returns-in-Err-clause-spent : goal.returns-in-Err-clause-spent
+returns-in-Err-clause-spent c = nothing_spent c.args.formatter.now 200

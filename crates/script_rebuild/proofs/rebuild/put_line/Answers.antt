@@ -5,7 +5,7 @@ use Rattle.script_rebuild.specs.PutLine.{fits_after}
 use Rattle.script_rebuild.specs.Rebuilt.{port_of}
 use Rattle.script_rebuild.specs.Routed.{placed}
 use Rattle.script_rebuild.specs.Writer.{CanBePut, stp_of}
-use Rattle.script_rebuild.proofs.Rooms.{less_room}
+use Rattle.script_rebuild.proofs.Rooms.{nothing_spent}
 use Rattle.script_rebuild.specs.ReadingLaws.{says_fault}
 use Rattle.script_rebuild.proofs.Sources.{says_same, puts_said, packet_read, packet_said}
 use Rattle.script_rebuild.proofs.Sources.{can_be_put, there}
@@ -55,8 +55,7 @@ returns-in_default-fault c = record {
             (c.read_into.ensures.value ∙ ap (λ (r : Result (Unit {0}) LineFault). answer r c.read_into.new.said) c.in-Err.is)
             c.in_default-fault.not-BadLine);
       };
-  count = omega arith;
-  room = λ more h. less_room c.args.writer.now.formatter (200 + more) more (omega arith) h;
+  spent = nothing_spent c.args.writer.now.formatter 200;
 }
 
 pub put2-requires-clause-said : goal.put2-requires-clause-said

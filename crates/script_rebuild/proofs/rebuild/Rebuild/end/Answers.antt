@@ -5,22 +5,23 @@ use Rattle.script_rebuild.proofs.Rooms.{less_room}
 use Rattle.script_rebuild.proofs.Taking.{none_if, ended_whole, ended_before, ended_last}
 use Rattle.script_rebuild.proofs.rebuild.Rebuild.end.Goals as goal
 
-pub put_line-requires-clause-count : goal.put_line-requires-clause-count
-put_line-requires-clause-count c =
-    let r = c.args.self.now in omega (arith, r.frames c.requires.reading, r.small)
-
 pub put_line-requires-clause-room : goal.put_line-requires-clause-room
 put_line-requires-clause-room c =
-    let w = c.args.self.now.writer.formatter in less_room w 226 200 (omega arith) (paid_room w c.requires.paid)
+    let r = c.args.self.now in
+    let w = r.writer.formatter in record {
+      count = omega (arith, r.frames c.requires.reading, r.small);
+      room = less_room w 226 200 (omega arith) (paid_room w c.requires.paid);
+    }
 
-pub flush-requires-clause-count : goal.flush-requires-clause-count
-flush-requires-clause-count c =
-    let r = c.args.self.now in omega (arith, r.frames c.requires.reading, r.small, c.put_line.ensures.count)
-
-pub flush-requires-clause-room : goal.flush-requires-clause-room
-flush-requires-clause-room c =
-    let w = c.args.self.now.writer.formatter in
-    c.put_line.ensures.room 23 (less_room w 226 (200 + 23) (omega arith) (paid_room w c.requires.paid))
+pub flush-requires : goal.flush-requires
+flush-requires c =
+    let r = c.args.self.now in
+    let w = r.writer.formatter in record {
+      room = record {
+        count = omega (arith, r.frames c.requires.reading, r.small, c.put_line.ensures.spent.count);
+        room = c.put_line.ensures.spent.room 23 (less_room w 226 (200 + 23) (omega arith) (paid_room w c.requires.paid));
+      };
+    }
 
 pub returns-then-is_some-clause-ended : goal.returns-then-is_some-clause-ended
 returns-then-is_some-clause-ended c = λ seen s.

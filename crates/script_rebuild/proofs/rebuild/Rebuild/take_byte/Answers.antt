@@ -21,8 +21,8 @@ returns-then-byte-eq10-clause-taken c = λ seen s.
 pub returns-else-byte-eq10-clause-taken : goal.returns-else-byte-eq10-clause-taken
 returns-else-byte-eq10-clause-taken c = λ seen s.
     let r = c.args.self.now in
-    let live = c.requires.live.sound in
+    let live = c.requires.ready.live.sound in
     let other = c.if-byte-eq10.false in
     let long = sym (ap length (s.open_bytes live)) ∙ c.requires.last other in
-    refused r _ seen c.args.byte LongLine c.args.outlet.now refl live c.requires.live.reading refl refl refl c.requires.paid
+    refused r _ seen c.args.byte LongLine c.args.outlet.now refl live c.requires.ready.live.reading refl refl refl c.requires.ready.paid
     (long_routed r.plan seen (sound_of r seen s live) c.args.byte long other) s

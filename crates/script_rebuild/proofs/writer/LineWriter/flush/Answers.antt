@@ -8,15 +8,25 @@ use Rattle.script_rebuild.specs.Writer.{turns_of}
 use Rattle.script_rebuild.proofs.writer.LineWriter.flush.Goals as goal
 
 pub put_kept-self-requires-clause-room : goal.put_kept-self-requires-clause-room
-put_kept-self-requires-clause-room c = less_room c.args.self.now.formatter 23 16 (omega arith) c.requires.room
+put_kept-self-requires-clause-room c = less_room c.args.self.now.formatter 23 16 (omega arith) c.requires.room.room
 
 pub flush-requires-clause-room : goal.flush-requires-clause-room
-flush-requires-clause-room c = c.put_kept-self.ensures.room 7 c.requires.room
+flush-requires-clause-room c = c.put_kept-self.ensures.room 7 c.requires.room.room
 
-pub returns-clause-room : goal.returns-clause-room
-returns-clause-room c = λ more h.
-    c.flush.ensures.room more
-    (c.put_kept-self.ensures.room (7 + more) (less_room c.args.self.now.formatter (23 + more) (16 + (7 + more)) (omega arith) h))
+pub put_kept-self-requires-clause-count : goal.put_kept-self-requires-clause-count
+put_kept-self-requires-clause-count c = omega (arith, c.requires.room.count)
+
+pub flush-requires-clause-count : goal.flush-requires-clause-count
+flush-requires-clause-count c = omega (arith, c.requires.room.count, c.put_kept-self.ensures.count)
+
+pub returns-clause-spent : goal.returns-clause-spent
+returns-clause-spent c = record {
+  turns = c.flush.ensures.turns ∙ c.put_kept-self.ensures.turns;
+  count = omega (arith, c.flush.ensures.count, c.put_kept-self.ensures.count);
+  room = λ more h.
+      c.flush.ensures.room more
+      (c.put_kept-self.ensures.room (7 + more) (less_room c.args.self.now.formatter (23 + more) (16 + (7 + more)) (omega arith) h));
+}
 
 pub returns-clause-puts : goal.returns-clause-puts
 returns-clause-puts c = λ port lines s.
