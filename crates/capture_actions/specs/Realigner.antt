@@ -8,9 +8,6 @@ use Rattle.capture_actions.specs.declared.realign.Realign.{Realign}
 abbrev pub plan_of : Realign → Unit {0}
 plan_of r = tt
 
-abbrev pub IsLive : Realign → Type 0
-IsLive r = Unit {0}
-
 abbrev pub taken_by : Realign → ℕ
 taken_by r = pushed_by r.slip
 

@@ -31,10 +31,6 @@ plan_of ring = size_of ring.buffer
 abbrev pub taken_by : Ring → ℕ
 taken_by ring = pushed_by ring.buffer
 
--- it can always be fed
-abbrev pub IsLive : Ring → Type 0
-IsLive ring = Unit {0}
-
 -- the last bytes of the image, at least one of which a call puts
 abbrev pub debt_of : Ring → Debt
 debt_of ring = owing (last_of ring.owed (memory_of ring.buffer)) ring.owed

@@ -27,10 +27,6 @@ plan_of unring = record { size = size_of unring.buffer; pointer = unring.pointer
 abbrev pub taken_by : Unring → ℕ
 taken_by unring = pushed_by unring.buffer
 
--- it can always be fed
-abbrev pub IsLive : Unring → Type 0
-IsLive unring = Unit {0}
-
 -- what its memory has, in order
 abbrev pub ordered_of : Unring → List ℕ
 ordered_of unring = ordered (memory_of unring.buffer) unring.pointer unring.full

@@ -184,7 +184,6 @@ impl Action for Check {
     ghost use Rattle.capture_actions.specs.Summary.{check_meaning};
     ghost use Rattle.capture_actions.specs.CheckLaws.{check_lawful};
     ghost use Rattle.capture_actions.specs.Check.{Stands, plan_of, taken_by, IsLive};
-    ghost use Rattle.capture_actions.specs.Names.{Paid};
 
     type Plan = Plan;
 
@@ -195,8 +194,6 @@ impl Action for Check {
     ghost taken = { taken_by };
 
     ghost stands = { Stands };
-
-    ghost debt = { λ _. Paid };
 
     ghost meaning = { check_meaning };
 

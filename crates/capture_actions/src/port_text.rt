@@ -51,7 +51,6 @@ impl Action for PortText {
     ghost use Rattle.capture_actions.specs.PortText.{port_text_meaning};
     ghost use Rattle.capture_actions.specs.PortTextLaws.{port_text_lawful};
     ghost use Rattle.capture_actions.specs.PortTexter.{plan_of, Stands, taken_by, IsLive};
-    ghost use Rattle.capture_actions.specs.Names.{Paid};
 
     type Plan = PortTextPlan;
 
@@ -62,8 +61,6 @@ impl Action for PortText {
     ghost taken = { taken_by };
 
     ghost stands = { Stands };
-
-    ghost debt = { λ _. Paid };
 
     ghost meaning = { port_text_meaning };
 

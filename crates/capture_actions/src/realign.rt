@@ -71,13 +71,12 @@ pub fn realign_law()
 {}
 
 impl Realign {
-    ghost use Rattle.capture_actions.specs.Realigner.{Stands, plan_of, taken_by, IsLive};
+    ghost use Rattle.capture_actions.specs.Realigner.{Stands, plan_of, taken_by};
 
     /// Nothing is taken yet.
     pub fn new() -> Realign
         ensures stands { Stands result [] }
         ensures count { taken_by result ≡ 0 }
-        ensures live { IsLive result }
     {
         Realign { slip: Slip::new() }
     }
@@ -93,21 +92,16 @@ impl Realign {
 
 impl Action for Realign {
     ghost use Rattle.capture_actions.specs.Realigned.{realign_meaning};
-    ghost use Rattle.capture_actions.specs.Realigner.{Stands, plan_of, taken_by, IsLive};
+    ghost use Rattle.capture_actions.specs.Realigner.{Stands, plan_of, taken_by};
     ghost use Rattle.capture_actions.specs.RealignLaws.{realign_lawful};
-    ghost use Rattle.capture_actions.specs.Names.{Paid};
 
     type Plan = ();
 
     ghost plan = { plan_of };
 
-    ghost live = { IsLive };
-
     ghost taken = { taken_by };
 
     ghost stands = { Stands };
-
-    ghost debt = { λ _. Paid };
 
     ghost meaning = { λ _. realign_meaning };
 

@@ -41,7 +41,7 @@ impl Ring {
 }
 
 impl Action for Ring {
-    ghost use Rattle.capture_actions.specs.Ring.{Stands, plan_of, taken_by, IsLive, debt_of, ring_meaning};
+    ghost use Rattle.capture_actions.specs.Ring.{Stands, plan_of, taken_by, debt_of, ring_meaning};
     ghost use Rattle.capture_actions.specs.RingLaws.{at_end_lawful};
     ghost use Rattle.buffer_ring.specs.Image.{image};
 
@@ -49,8 +49,6 @@ impl Action for Ring {
     type Plan = usize;
 
     ghost plan = { plan_of };
-
-    ghost live = { IsLive };
 
     ghost taken = { taken_by };
 

@@ -70,7 +70,6 @@ impl Action for Show {
     ghost use Rattle.capture_actions.specs.Listing.{show_meaning};
     ghost use Rattle.capture_actions.specs.ListingLaws.{show_lawful};
     ghost use Rattle.capture_actions.specs.Show.{plan_of, Stands, taken_by, IsLive};
-    ghost use Rattle.capture_actions.specs.Names.{Paid};
 
     type Plan = ListPlan;
 
@@ -81,8 +80,6 @@ impl Action for Show {
     ghost taken = { taken_by };
 
     ghost stands = { Stands };
-
-    ghost debt = { λ _. Paid };
 
     ghost meaning = { show_meaning };
 

@@ -136,7 +136,6 @@ impl Action for Split {
     ghost use Rattle.capture_actions.specs.Split.{split_meaning};
     ghost use Rattle.capture_actions.specs.Splitter.{Stands, plan_of, taken_by, IsLive};
     ghost use Rattle.capture_actions.specs.SplitLaws.{split_lawful};
-    ghost use Rattle.capture_actions.specs.Names.{Paid};
 
     type Plan = SplitPlan;
 
@@ -147,8 +146,6 @@ impl Action for Split {
     ghost taken = { taken_by };
 
     ghost stands = { Stands };
-
-    ghost debt = { λ _. Paid };
 
     ghost meaning = { split_meaning };
 

@@ -80,15 +80,13 @@ impl Unring {
 
 impl Action for Unring {
     ghost use Rattle.buffer_ring.specs.Image.{ordered};
-    ghost use Rattle.capture_actions.specs.Unring.{Stands, plan_of, taken_by, IsLive, debt_of, in_order};
+    ghost use Rattle.capture_actions.specs.Unring.{Stands, plan_of, taken_by, debt_of, in_order};
     ghost use Rattle.capture_actions.specs.Unring.{unring_meaning};
     ghost use Rattle.capture_actions.specs.RingLaws.{at_end_lawful};
 
     type Plan = UnringPlan;
 
     ghost plan = { plan_of };
-
-    ghost live = { IsLive };
 
     ghost taken = { taken_by };
 

@@ -42,7 +42,6 @@ impl Action for Exercise {
     ghost use Rattle.capture_exercise.specs.Summary.{exercise_meaning};
     ghost use Rattle.capture_exercise.specs.SummaryLaws.{exercise_lawful};
     ghost use Rattle.capture_exercise.specs.Exerciser.{Stands, plan_of, taken_by, IsLive};
-    ghost use Rattle.trace_stream.specs.Debt.{Paid};
 
     type Plan = ExercisePlan;
 
@@ -53,8 +52,6 @@ impl Action for Exercise {
     ghost taken = { taken_by };
 
     ghost stands = { Stands };
-
-    ghost debt = { λ _. Paid };
 
     ghost meaning = { exercise_meaning };
 

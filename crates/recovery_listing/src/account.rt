@@ -33,9 +33,9 @@ pub trait Account {
     // it was given the events of these bytes, which were read so
     ghost stands: { Self → GoingOn Plan → List ℕ → Type 0 };
     // it may be given more after so many bytes
-    ghost live: { Self → ℕ → Type 0 };
+    ghost live: { Self → ℕ → Type 0 } = { λ account count. Unit {0} };
     // what it still owes of what is written
-    ghost debt: { Self → Debt };
+    ghost debt: { Self → Debt } = { λ account. Paid };
     // it was given these events, and what is written and noted grew
     ghost gets: { (Self × Pages) → List (Event (Heard Packet)) → (Self × Pages) → Type 0 };
     // what is written of the bytes of a capture

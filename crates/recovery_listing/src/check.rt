@@ -69,7 +69,6 @@ impl Tally {
 impl Account for Tally {
     ghost use Rattle.std.specs.Prelude.{refl};
     ghost use Rattle.source_events.specs.declared.plan.Plan.{Plan};
-    ghost use Rattle.trace_stream.specs.Debt.{Paid};
     ghost use Rattle.recovery_listing.specs.Check.{HasCounted, IsAt, asked, gets};
     ghost use Rattle.recovery_listing.specs.CheckLaws.{goes_on, same};
     ghost use Rattle.recovery_listing.specs.MeaningLaws.{end_lawful};
@@ -84,8 +83,6 @@ impl Account for Tally {
     ghost stands = { HasCounted };
 
     ghost live = { IsAt };
-
-    ghost debt = { λ _. Paid };
 
     ghost gets = { gets };
 

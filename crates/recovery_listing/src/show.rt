@@ -35,8 +35,7 @@ impl Recovering<RecoveringLister> {
 
 /// The lines of events are put as these come, and the end lines at the end.
 impl Account for RecoveringLister {
-    ghost use Rattle.std.specs.Prelude.{⊤, refl};
-    ghost use Rattle.trace_stream.specs.Debt.{Paid};
+    ghost use Rattle.std.specs.Prelude.{refl};
     ghost use Rattle.capture_actions.specs.declared.list_plan.ListPlan.{ListPlan};
     ghost use Rattle.recovery_listing.specs.Near.{listing_meaning};
     ghost use Rattle.recovery_listing.specs.MeaningLaws.{listing_lawful};
@@ -50,10 +49,6 @@ impl Account for RecoveringLister {
     ghost capture = { λ asked. asked.plan.plan };
 
     ghost stands = { HasListed };
-
-    ghost live = { λ lister count. ⊤ };
-
-    ghost debt = { λ _. Paid };
 
     ghost gets = { gets };
 

@@ -57,7 +57,6 @@ impl Recovering<Noting<PortValues>> {
 /// Only the values are written. Where a fault is passed its line is noted.
 impl Account for Noting<PortValues> {
     ghost use Rattle.std.specs.Prelude.{refl};
-    ghost use Rattle.trace_stream.specs.Debt.{Paid};
     ghost use Rattle.capture_actions.specs.declared.port_text_plan.PortTextPlan.{PortTextPlan};
     ghost use Rattle.recovery_listing.specs.PortText.{noted_text, port_text_meaning};
     ghost use Rattle.recovery_listing.specs.PortTextLaws.{port_text_lawful};
@@ -73,8 +72,6 @@ impl Account for Noting<PortValues> {
     ghost stands = { HasPut };
 
     ghost live = { IsSilent };
-
-    ghost debt = { λ _. Paid };
 
     ghost gets = { gets };
 

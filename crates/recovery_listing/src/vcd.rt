@@ -71,7 +71,6 @@ impl Recovering<RecoveringDump> {
 /// Lines are put at each local timestamp, and the rest at the end. Where a fault is passed its line is noted.
 impl Account for RecoveringDump {
     ghost use Rattle.std.specs.Prelude.{refl};
-    ghost use Rattle.trace_stream.specs.Debt.{Paid};
     ghost use Rattle.value_dump.specs.declared.vcd_plan.VcdPlan.{VcdPlan};
     ghost use Rattle.recovery_listing.specs.Dump.{dump_meaning, noted_dump};
     ghost use Rattle.recovery_listing.specs.DumpLaws.{dump_lawful};
@@ -87,8 +86,6 @@ impl Account for RecoveringDump {
     ghost stands = { HasDumped };
 
     ghost live = { IsReady };
-
-    ghost debt = { λ _. Paid };
 
     ghost gets = { gets };
 

@@ -33,13 +33,13 @@ pub trait Action {
     // what stays the same during a run
     ghost plan: { Self → Self.Plan };
     // it may be fed
-    ghost live: { Self → Type 0 };
+    ghost live: { Self → Type 0 } = { λ action. Unit {0} };
     // how many bytes it took
     ghost taken: { Self → ℕ };
     // it took these bytes
     ghost stands: { Self → List ℕ → Type 0 };
     // what it still owes of what is written for them
-    ghost debt: { Self → Debt };
+    ghost debt: { Self → Debt } = { λ action. Paid };
     // what it makes of the bytes of a capture
     ghost meaning: { Self.Plan → Meaning };
     // what is noted of them as they come, beside what is written

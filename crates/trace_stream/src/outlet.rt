@@ -20,7 +20,7 @@ pub const TEXT_ROOM: usize = 160;
 /// A text of at most `TEXT_ROOM` bytes that is put into an outlet at once.
 pub trait Text {
     // what it needs of its own parts, as numbers in their ranges
-    ghost fits: { Self → Type 0 };
+    ghost fits: { Self → Type 0 } = { λ line. Unit {0} };
     // its bytes
     ghost text: { Self → List ℕ };
 

@@ -20,8 +20,6 @@ pub struct PortCountsLines {
 }
 
 impl Text for PortCountsLines {
-    ghost fits = { λ _. Unit {0} };
-
     ghost text = { λ l. port_counts_text l.fulls l.halves l.frames };
 
     fn put(&self, room: &mut [u8], from: usize) -> usize {
@@ -39,8 +37,6 @@ pub struct FaultCountLine {
 }
 
 impl Text for FaultCountLine {
-    ghost fits = { λ _. Unit {0} };
-
     ghost text = { λ l. faults_line l.faults };
 
     fn put(&self, room: &mut [u8], from: usize) -> usize {
@@ -57,8 +53,6 @@ pub struct ExerciseLines {
 }
 
 impl Text for ExerciseLines {
-    ghost fits = { λ _. Unit {0} };
-
     ghost text = { λ l. exercise_lines l.items l.capture };
 
     fn put(&self, room: &mut [u8], from: usize) -> usize {
@@ -77,8 +71,6 @@ struct SourceCountsLine {
 }
 
 impl Text for SourceCountsLine {
-    ghost fits = { λ _. Unit {0} };
-
     ghost text = { λ l. source_counts_line l.id l.bytes l.items };
 
     fn put(&self, room: &mut [u8], from: usize) -> usize {

@@ -68,8 +68,6 @@ fn put_rest(room: &mut [u8], from: usize, skipped: u64, tail: u64) -> usize
 }
 
 impl Text for EndLine {
-    ghost fits = { λ _. Unit {0} };
-
     ghost text = { λ l. end_line l.bytes };
 
     fn put(&self, room: &mut [u8], from: usize) -> usize {
@@ -79,8 +77,6 @@ impl Text for EndLine {
 }
 
 impl Text for PortEndLine {
-    ghost fits = { λ _. Unit {0} };
-
     ghost text = { λ l. port_line l.mode l.skipped l.tail l.unattributed };
 
     fn put(&self, room: &mut [u8], from: usize) -> usize {
@@ -93,8 +89,6 @@ impl Text for PortEndLine {
 }
 
 impl Text for SourceEndLine {
-    ghost fits = { λ _. Unit {0} };
-
     ghost text = { λ l. source_line l.source };
 
     fn put(&self, room: &mut [u8], from: usize) -> usize {

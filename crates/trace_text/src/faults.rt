@@ -33,8 +33,6 @@ fn put_reason(room: &mut [u8], from: usize, reason: Reason) -> usize
 }
 
 impl Text for FaultLine {
-    ghost fits = { λ _. Unit {0} };
-
     ghost text = { λ l. fault_line l.stp (stop_of l.stop) };
 
     fn put(&self, room: &mut [u8], from: usize) -> usize {

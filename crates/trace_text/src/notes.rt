@@ -86,8 +86,6 @@ impl Text for ScriptFaultLine<'_> {
 }
 
 impl Text for LimitLine {
-    ghost fits = { λ _. Unit {0} };
-
     ghost text = { λ l. limit_line l.limit };
 
     fn put(&self, room: &mut [u8], from: usize) -> usize {
@@ -97,8 +95,6 @@ impl Text for LimitLine {
 }
 
 impl Text for SlippedLine {
-    ghost fits = { λ _. Unit {0} };
-
     ghost text = { λ l. slipped_line l.skipped l.dropped l.patterns };
 
     fn put(&self, room: &mut [u8], from: usize) -> usize {
@@ -110,8 +106,6 @@ impl Text for SlippedLine {
 }
 
 impl Text for BufferLine {
-    ghost fits = { λ _. Unit {0} };
-
     ghost text = { λ l. buffer_line l.pointer l.full l.dropped };
 
     fn put(&self, room: &mut [u8], from: usize) -> usize {
@@ -124,8 +118,6 @@ impl Text for BufferLine {
 }
 
 impl Text for ImageLine {
-    ghost fits = { λ _. Unit {0} };
-
     ghost text = { λ l. image_line l.size };
 
     fn put(&self, room: &mut [u8], from: usize) -> usize {

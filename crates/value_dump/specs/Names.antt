@@ -1,7 +1,7 @@
 -- Names of lower crates, for the files of this one.
 pub use Rattle.capture_actions.specs.Faulty.{IsFaulty}
 pub use Rattle.capture_actions.specs.Listing.{itm_packet, itm_packets}
-pub use Rattle.capture_actions.specs.Names.{Event, FaultAfter, IsLawful, Meaning, Packet, Paid, fault_of, is_of, is_sound}
+pub use Rattle.capture_actions.specs.Names.{Event, FaultAfter, IsLawful, Meaning, Packet, fault_of, is_of, is_sound}
 pub use Rattle.capture_actions.specs.Names.{placed, report_of, sources_by, stop_of}
 pub use Rattle.capture_actions.specs.PortText.{source_of}
 pub use Rattle.capture_actions.specs.Remarks.{deltas_in, local_after}

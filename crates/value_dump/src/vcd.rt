@@ -73,7 +73,6 @@ impl Action for Vcd {
     ghost use Rattle.value_dump.specs.Vcd.{vcd_meaning};
     ghost use Rattle.value_dump.specs.VcdLaws.{vcd_lawful};
     ghost use Rattle.value_dump.specs.VcdStands.{plan_of, Stands, taken_by, IsLive};
-    ghost use Rattle.value_dump.specs.Names.{Paid};
 
     type Plan = VcdPlan;
 
@@ -84,8 +83,6 @@ impl Action for Vcd {
     ghost taken = { taken_by };
 
     ghost stands = { Stands };
-
-    ghost debt = { λ _. Paid };
 
     ghost meaning = { vcd_meaning };
 
