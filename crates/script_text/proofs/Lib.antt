@@ -1,5 +1,5 @@
 pub mod Splitting
-pub mod Unnamed
+mod FirstWords
 pub mod Hexadecimals
 pub mod Joining
 pub mod DigitTable

@@ -1,6 +1,7 @@
 -- The words of items' texts: the table of item words, and after each the words that an item's text has there.
 use Rattle.std.specs.Prelude.{ℕ, List, [], ◌∷◌, Bool, true, false, map, ◌&&◌, Option, Some, None, if◌then◌else◌, codes}
 use Rattle.std.specs.Prelude.{bytes_eq}
+use Rattle.std.specs.Borrow.{Bor}
 use Rattle.itm_grammar.specs.declared.packet.Size.TheVariants.{One, Two, Four as FourBytes}
 use Rattle.itm_grammar.specs.declared.packet.Lateness.TheVariants.{Exact, StampLate, PacketLate, BothLate}
 use Rattle.dwt_packets.specs.declared.item.Change.TheVariants.{Enter, Exit, Return}
@@ -26,43 +27,48 @@ abbrev pub seen : Coded → Field
 seen (CodedWord word) = Word word.now
 seen CodedNumber = Number
 
+-- the words that texts of items begin with, each with the shapes of these items
+abbrev pub first_words : List (List ℕ × List Shape)
+first_words =
+    (codes "sync", Itm Sync ∷ []) ∷
+    (codes "overflow", Itm Overflow ∷ []) ∷
+    (codes "port", Itm (Software One) ∷ Itm (Software Two) ∷ Itm (Software FourBytes) ∷ []) ∷
+    (codes "local", Itm (Local Exact) ∷ Itm (Local StampLate) ∷ Itm (Local PacketLate) ∷ Itm (Local BothLate) ∷ []) ∷
+    (codes "global1", Itm GlobalFirst ∷ []) ∷
+    (codes "global2", Itm (GlobalSecond false) ∷ Itm (GlobalSecond true) ∷ []) ∷
+    (codes "ext", Itm (Extension false) ∷ Itm (Extension true) ∷ []) ∷
+    (codes "counters", Dwt Counters ∷ []) ∷
+    (codes "exception", Dwt (Exception Enter) ∷ Dwt (Exception Exit) ∷ Dwt (Exception Return) ∷ []) ∷
+    (codes "pc", Dwt Sample ∷ []) ∷
+    (codes "asleep", Dwt Asleep ∷ []) ∷ (
+      codes "cmp",
+      Dwt MatchPc ∷ Dwt MatchAddress ∷ Dwt (Read One) ∷ Dwt (Read Two) ∷ Dwt (Read FourBytes)
+          ∷ Dwt (Written One) ∷ Dwt (Written Two) ∷ Dwt (Written FourBytes) ∷ [],
+    ) ∷
+    (codes "hw", Dwt (Other One) ∷ Dwt (Other Two) ∷ Dwt (Other FourBytes) ∷ []) ∷
+    (codes "async", Stp Async ∷ []) ∷
+    (codes "version", Stp Version ∷ []) ∷
+    (codes "merr", Stp MasterError ∷ []) ∷
+    (codes "gerr", Stp GlobalError ∷ []) ∷ (
+      codes "data",
+      Stp (Datum Four false) ∷ Stp (Datum Four true) ∷ Stp (Datum Eight false) ∷ Stp (Datum Eight true)
+          ∷ Stp (Datum Sixteen false) ∷ Stp (Datum Sixteen true) ∷ Stp (Datum ThirtyTwo false)
+          ∷ Stp (Datum ThirtyTwo true) ∷ Stp (Datum SixtyFour false) ∷ Stp (Datum SixtyFour true) ∷ [],
+    ) ∷
+    (codes "flag", Stp Flag ∷ []) ∷
+    (codes "trig", Stp Trigger ∷ []) ∷
+    (codes "freq", Stp Frequency ∷ []) ∷
+    (codes "nullts", Stp NullStamp ∷ []) ∷
+    (codes "raw", Raw ∷ []) ∷
+    []
+
+abbrev pub shapes_in : List (List ℕ × List Shape) → List ℕ → List Shape
+shapes_in [] word = []
+shapes_in ((first, shapes) ∷ rows) word = if bytes_eq word first then shapes else shapes_in rows word
+
 -- the shapes of the items whose texts begin with this word
 abbrev pub shapes_named : List ℕ → List Shape
-shapes_named word =
-    if bytes_eq word (codes "sync") then Itm Sync ∷ []
-    else if bytes_eq word (codes "overflow") then Itm Overflow ∷ []
-    else if bytes_eq word (codes "port") then
-    Itm (Software One) ∷ (Itm (Software Two) ∷ (Itm (Software FourBytes) ∷ []))
-    else if bytes_eq word (codes "local") then
-    Itm (Local Exact) ∷ (Itm (Local StampLate) ∷ (Itm (Local PacketLate) ∷ (Itm (Local BothLate) ∷ [])))
-    else if bytes_eq word (codes "global1") then Itm GlobalFirst ∷ []
-    else if bytes_eq word (codes "global2") then Itm (GlobalSecond false) ∷ (Itm (GlobalSecond true) ∷ [])
-    else if bytes_eq word (codes "ext") then Itm (Extension false) ∷ (Itm (Extension true) ∷ [])
-    else if bytes_eq word (codes "counters") then Dwt Counters ∷ []
-    else if bytes_eq word (codes "exception") then
-    Dwt (Exception Enter) ∷ (Dwt (Exception Exit) ∷ (Dwt (Exception Return) ∷ []))
-    else if bytes_eq word (codes "pc") then Dwt Sample ∷ []
-    else if bytes_eq word (codes "asleep") then Dwt Asleep ∷ []
-    else if bytes_eq word (codes "cmp") then Dwt MatchPc ∷ (Dwt MatchAddress
-    ∷ (Dwt (Read One) ∷ (Dwt (Read Two) ∷ (Dwt (Read FourBytes)
-    ∷ (Dwt (Written One) ∷ (Dwt (Written Two) ∷ (Dwt (Written FourBytes) ∷ [])))))))
-    else if bytes_eq word (codes "hw") then
-    Dwt (Other One) ∷ (Dwt (Other Two) ∷ (Dwt (Other FourBytes) ∷ []))
-    else if bytes_eq word (codes "async") then Stp Async ∷ []
-    else if bytes_eq word (codes "version") then Stp Version ∷ []
-    else if bytes_eq word (codes "merr") then Stp MasterError ∷ []
-    else if bytes_eq word (codes "gerr") then Stp GlobalError ∷ []
-    else if bytes_eq word (codes "data") then Stp (Datum Four false) ∷ (Stp (Datum Four true)
-    ∷ (Stp (Datum Eight false) ∷ (Stp (Datum Eight true)
-    ∷ (Stp (Datum Sixteen false) ∷ (Stp (Datum Sixteen true)
-    ∷ (Stp (Datum ThirtyTwo false) ∷ (Stp (Datum ThirtyTwo true)
-    ∷ (Stp (Datum SixtyFour false) ∷ (Stp (Datum SixtyFour true) ∷ [])))))))))
-    else if bytes_eq word (codes "flag") then Stp Flag ∷ []
-    else if bytes_eq word (codes "trig") then Stp Trigger ∷ []
-    else if bytes_eq word (codes "freq") then Stp Frequency ∷ []
-    else if bytes_eq word (codes "nullts") then Stp NullStamp ∷ []
-    else if bytes_eq word (codes "raw") then Raw ∷ []
-    else []
+shapes_named word = shapes_in first_words word
 
 -- the words of a shape's texts after the first
 abbrev pub plain : table.Field → Field
@@ -93,3 +99,22 @@ first_fitting (shape ∷ shapes) words = if fits (fields_of shape) words then So
 unfoldable pub shape_named : List (List ℕ) → Option Shape
 shape_named [] = None
 shape_named (word ∷ words) = first_fitting (shapes_named word) words
+
+-- the rows of the code's table, each a shape with its words after the first
+abbrev pub Rows : Type 0
+Rows = List (Shape × List Field)
+
+abbrev pub row_seen : Shape × Bor (List Coded) → Shape × List Field
+row_seen (shape, fields) = (shape, map seen fields.now)
+
+abbrev pub texts_seen : Bor (List ℕ) × Bor (List (Shape × Bor (List Coded))) → List ℕ × Rows
+texts_seen (first, rows) = (first.now, map row_seen rows.now)
+
+-- those of a first word, and the first of them that words have
+abbrev pub rows_in : List (List ℕ × Rows) → List ℕ → Rows
+rows_in [] word = []
+rows_in ((first, rows) ∷ texts) word = if bytes_eq word first then rows else rows_in texts word
+
+abbrev pub first_row : Rows → List (List ℕ) → Option Shape
+first_row [] words = None
+first_row ((shape, fields) ∷ rows) words = if fits fields words then Some shape else first_row rows words

@@ -1,13 +1,11 @@
 //! The texts of hardware packets, by their words.
 
-ghost use Rattle.std.specs.Prelude.{◌≡◌, map};
+ghost use Rattle.std.specs.Prelude.{◌≡◌};
 ghost use Rattle.script_text.specs.Words.{texts};
-ghost use Rattle.script_text.specs.Shapes.{seen, fields_of};
 ghost use Rattle.script_text.specs.Items.{dwt_of as dwt_in};
 ghost use Rattle.script_text.specs.Table.{counters_within, unnamed as unnamed_in};
 
 use crate::numbers::{byte_at, decimal_at, value_at};
-use crate::shapes::{Field, Shape};
 use dwt_packets::{Change, DwtItem, meaning};
 use itm_grammar::packet::Size;
 
@@ -23,43 +21,6 @@ pub enum DwtShape {
     Read(Size),
     Written(Size),
     Other(Size),
-}
-
-macro_rules! accessed {
-    ($access:literal, $size:literal) => {
-        &[
-            Field::Number,
-            Field::Word($access),
-            Field::Word($size),
-            Field::Number,
-        ]
-    };
-}
-
-impl DwtShape {
-    /// The words after the first.
-    pub fn fields(&self) -> &'static [Field]
-        ensures { map seen result.now ≡ fields_of (Shape.Dwt self.now) }
-    {
-        match self {
-            DwtShape::Counters | DwtShape::Sample => &[Field::Number],
-            DwtShape::Exception(Change::Enter) => &[Field::Number, Field::Word("enter")],
-            DwtShape::Exception(Change::Exit) => &[Field::Number, Field::Word("exit")],
-            DwtShape::Exception(Change::Return) => &[Field::Number, Field::Word("return")],
-            DwtShape::Asleep => &[],
-            DwtShape::MatchPc => &[Field::Number, Field::Word("pc"), Field::Number],
-            DwtShape::MatchAddress => &[Field::Number, Field::Word("addr"), Field::Number],
-            DwtShape::Read(Size::One) => accessed!("read", "u8"),
-            DwtShape::Read(Size::Two) => accessed!("read", "u16"),
-            DwtShape::Read(Size::Four) => accessed!("read", "u32"),
-            DwtShape::Written(Size::One) => accessed!("write", "u8"),
-            DwtShape::Written(Size::Two) => accessed!("write", "u16"),
-            DwtShape::Written(Size::Four) => accessed!("write", "u32"),
-            DwtShape::Other(Size::One) => &[Field::Number, Field::Word("u8"), Field::Number],
-            DwtShape::Other(Size::Two) => &[Field::Number, Field::Word("u16"), Field::Number],
-            DwtShape::Other(Size::Four) => &[Field::Number, Field::Word("u32"), Field::Number],
-        }
-    }
 }
 
 /// The item, where it is a hardware packet without a name.

@@ -1,13 +1,11 @@
 //! The texts of ITM packets, by their words.
 
-ghost use Rattle.std.specs.Prelude.{◌≡◌, map};
+ghost use Rattle.std.specs.Prelude.{◌≡◌};
 ghost use Rattle.script_text.specs.Words.{texts};
-ghost use Rattle.script_text.specs.Shapes.{seen, fields_of};
 ghost use Rattle.script_text.specs.Items.{itm_of as itm_in};
 ghost use Rattle.script_text.specs.Table.{first_checked as checked_by};
 
 use crate::numbers::{decimal_at, value_at};
-use crate::shapes::{Field, Shape};
 use itm_grammar::packet::{ItmPacket, Lateness, Size};
 use itm_grammar::proper::is_proper;
 
@@ -23,29 +21,6 @@ pub enum ItmShape {
     GlobalSecond(bool),
     /// Whether it is the DWT's.
     Extension(bool),
-}
-
-impl ItmShape {
-    /// The words after the first.
-    pub fn fields(&self) -> &'static [Field]
-        ensures { map seen result.now ≡ fields_of (Shape.Itm self.now) }
-    {
-        match self {
-            ItmShape::Sync | ItmShape::Overflow => &[],
-            ItmShape::Software(Size::One) => &[Field::Number, Field::Word("u8"), Field::Number],
-            ItmShape::Software(Size::Two) => &[Field::Number, Field::Word("u16"), Field::Number],
-            ItmShape::Software(Size::Four) => &[Field::Number, Field::Word("u32"), Field::Number],
-            ItmShape::Local(Lateness::Exact) => &[Field::Word("exact"), Field::Number],
-            ItmShape::Local(Lateness::StampLate) => &[Field::Word("stamp-late"), Field::Number],
-            ItmShape::Local(Lateness::PacketLate) => &[Field::Word("packet-late"), Field::Number],
-            ItmShape::Local(Lateness::BothLate) => &[Field::Word("both-late"), Field::Number],
-            ItmShape::GlobalFirst => &[Field::Number, Field::Number, Field::Number, Field::Number],
-            ItmShape::GlobalSecond(false) => &[Field::Word("48"), Field::Number],
-            ItmShape::GlobalSecond(true) => &[Field::Word("64"), Field::Number],
-            ItmShape::Extension(false) => &[Field::Word("itm"), Field::Number],
-            ItmShape::Extension(true) => &[Field::Word("dwt"), Field::Number],
-        }
-    }
 }
 
 /// The packet, where its numbers are in their ranges.

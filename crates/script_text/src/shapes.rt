@@ -2,8 +2,8 @@
 
 ghost use Rattle.std.specs.Prelude.{◌≡◌, map};
 ghost use Rattle.script_text.specs.Words.{texts};
-ghost use Rattle.script_text.specs.Shapes.{seen, allows, fits as fitting, fields_of, first_fitting, shapes_named};
-ghost use Rattle.script_text.specs.Shapes.{shape_named};
+ghost use Rattle.script_text.specs.Shapes.{seen, allows, fits as fitting, shape_named, row_seen, texts_seen};
+ghost use Rattle.script_text.specs.Shapes.{rows_in, first_row, first_fitting as fitting_first, shapes_named};
 
 use crate::dwt_shapes::DwtShape;
 use crate::itm_shapes::ItmShape;
@@ -31,20 +31,6 @@ pub enum Shape {
     Raw,
 }
 
-impl Shape {
-    /// The words after the first.
-    fn fields(&self) -> &'static [Field]
-        ensures { map seen result.now ≡ fields_of self.now }
-    {
-        match self {
-            Shape::Itm(shape) => shape.fields(),
-            Shape::Dwt(shape) => shape.fields(),
-            Shape::Stp(shape) => shape.fields(),
-            Shape::Raw => &[Field::Number],
-        }
-    }
-}
-
 impl Field {
     /// Whether it may be this word: where a word is fixed, it is that one.
     fn allows(&self, word: &[u8]) -> bool
@@ -70,117 +56,120 @@ fn fits(fields: &[Field], words: &[&[u8]]) -> bool
     }
 }
 
-/// The first of these shapes that such words have, after the first word.
-fn first_fitting(shapes: &[Shape], words: &[&[u8]]) -> Option<Shape>
-    ensures { result ≡ first_fitting shapes.now (texts words.now) }
+/// What a text may be after its first word: its shape, and its words.
+type Row = (Shape, &'static [Field]);
+
+/// The first word of texts, and what they may be after it.
+type Texts = (&'static str, &'static [Row]);
+
+macro_rules! field {
+    (_) => {
+        Field::Number
+    };
+    ($word:literal) => {
+        Field::Word($word)
+    };
+}
+
+macro_rules! texts {
+    ($($first:literal: $($shape:expr => [$($field:tt)*]),+;)*) => {
+        [$(($first, &[$(($shape, &[$(field!($field)),*])),+])),*]
+    };
+}
+
+/// The texts of items by their first words, with `_` for a number or a timestamp.
+const TEXTS: [Texts; 23] = texts! {
+    "sync": Shape::Itm(ItmShape::Sync) => [];
+    "overflow": Shape::Itm(ItmShape::Overflow) => [];
+    "port":
+        Shape::Itm(ItmShape::Software(Size::One)) => [_ "u8" _],
+        Shape::Itm(ItmShape::Software(Size::Two)) => [_ "u16" _],
+        Shape::Itm(ItmShape::Software(Size::Four)) => [_ "u32" _];
+    "local":
+        Shape::Itm(ItmShape::Local(Lateness::Exact)) => ["exact" _],
+        Shape::Itm(ItmShape::Local(Lateness::StampLate)) => ["stamp-late" _],
+        Shape::Itm(ItmShape::Local(Lateness::PacketLate)) => ["packet-late" _],
+        Shape::Itm(ItmShape::Local(Lateness::BothLate)) => ["both-late" _];
+    "global1": Shape::Itm(ItmShape::GlobalFirst) => [_ _ _ _];
+    "global2":
+        Shape::Itm(ItmShape::GlobalSecond(false)) => ["48" _],
+        Shape::Itm(ItmShape::GlobalSecond(true)) => ["64" _];
+    "ext":
+        Shape::Itm(ItmShape::Extension(false)) => ["itm" _],
+        Shape::Itm(ItmShape::Extension(true)) => ["dwt" _];
+    "counters": Shape::Dwt(DwtShape::Counters) => [_];
+    "exception":
+        Shape::Dwt(DwtShape::Exception(Change::Enter)) => [_ "enter"],
+        Shape::Dwt(DwtShape::Exception(Change::Exit)) => [_ "exit"],
+        Shape::Dwt(DwtShape::Exception(Change::Return)) => [_ "return"];
+    "pc": Shape::Dwt(DwtShape::Sample) => [_];
+    "asleep": Shape::Dwt(DwtShape::Asleep) => [];
+    "cmp":
+        Shape::Dwt(DwtShape::MatchPc) => [_ "pc" _],
+        Shape::Dwt(DwtShape::MatchAddress) => [_ "addr" _],
+        Shape::Dwt(DwtShape::Read(Size::One)) => [_ "read" "u8" _],
+        Shape::Dwt(DwtShape::Read(Size::Two)) => [_ "read" "u16" _],
+        Shape::Dwt(DwtShape::Read(Size::Four)) => [_ "read" "u32" _],
+        Shape::Dwt(DwtShape::Written(Size::One)) => [_ "write" "u8" _],
+        Shape::Dwt(DwtShape::Written(Size::Two)) => [_ "write" "u16" _],
+        Shape::Dwt(DwtShape::Written(Size::Four)) => [_ "write" "u32" _];
+    "hw":
+        Shape::Dwt(DwtShape::Other(Size::One)) => [_ "u8" _],
+        Shape::Dwt(DwtShape::Other(Size::Two)) => [_ "u16" _],
+        Shape::Dwt(DwtShape::Other(Size::Four)) => [_ "u32" _];
+    "async": Shape::Stp(StpShape::Async) => [];
+    "version": Shape::Stp(StpShape::Version) => [_];
+    "merr": Shape::Stp(StpShape::MasterError) => [_ _ _];
+    "gerr": Shape::Stp(StpShape::GlobalError) => [_];
+    "data":
+        Shape::Stp(StpShape::Datum(Width::Four, false)) => [_ _ "u4" _ "-" _],
+        Shape::Stp(StpShape::Datum(Width::Four, true)) => [_ _ "u4" _ "m" _],
+        Shape::Stp(StpShape::Datum(Width::Eight, false)) => [_ _ "u8" _ "-" _],
+        Shape::Stp(StpShape::Datum(Width::Eight, true)) => [_ _ "u8" _ "m" _],
+        Shape::Stp(StpShape::Datum(Width::Sixteen, false)) => [_ _ "u16" _ "-" _],
+        Shape::Stp(StpShape::Datum(Width::Sixteen, true)) => [_ _ "u16" _ "m" _],
+        Shape::Stp(StpShape::Datum(Width::ThirtyTwo, false)) => [_ _ "u32" _ "-" _],
+        Shape::Stp(StpShape::Datum(Width::ThirtyTwo, true)) => [_ _ "u32" _ "m" _],
+        Shape::Stp(StpShape::Datum(Width::SixtyFour, false)) => [_ _ "u64" _ "-" _],
+        Shape::Stp(StpShape::Datum(Width::SixtyFour, true)) => [_ _ "u64" _ "m" _];
+    "flag": Shape::Stp(StpShape::Flag) => [_ _ _];
+    "trig": Shape::Stp(StpShape::Trigger) => [_ _];
+    "freq": Shape::Stp(StpShape::Frequency) => [_ _];
+    "nullts": Shape::Stp(StpShape::NullStamp) => [_];
+    "raw": Shape::Raw => [_];
+};
+
+/// What texts may be after this first word.
+fn rows_in(all: &[Texts], word: &[u8]) -> &'static [Row]
+    ensures { map row_seen result.now ≡ rows_in (map texts_seen all.now) word.now }
 {
-    for shape in shapes {
-        if fits(shape.fields(), words) {
-            return Some(*shape);
+    for texts in all {
+        let (first, rows) = *texts;
+        if word == first.as_bytes() {
+            return rows;
+        }
+    }
+    &[]
+}
+
+/// The shape of the first of these rows that such words have, after the first word.
+fn first_fitting(rows: &[Row], words: &[&[u8]]) -> Option<Shape>
+    ensures { result ≡ first_row (map row_seen rows.now) (texts words.now) }
+{
+    for row in rows {
+        let (shape, fields) = *row;
+        if fits(fields, words) {
+            return Some(shape);
         }
     }
     None
 }
 
-const PORTS: [Shape; 3] = [
-    Shape::Itm(ItmShape::Software(Size::One)),
-    Shape::Itm(ItmShape::Software(Size::Two)),
-    Shape::Itm(ItmShape::Software(Size::Four)),
-];
-
-const LOCALS: [Shape; 4] = [
-    Shape::Itm(ItmShape::Local(Lateness::Exact)),
-    Shape::Itm(ItmShape::Local(Lateness::StampLate)),
-    Shape::Itm(ItmShape::Local(Lateness::PacketLate)),
-    Shape::Itm(ItmShape::Local(Lateness::BothLate)),
-];
-
-const SECONDS: [Shape; 2] = [
-    Shape::Itm(ItmShape::GlobalSecond(false)),
-    Shape::Itm(ItmShape::GlobalSecond(true)),
-];
-
-const EXTENSIONS: [Shape; 2] = [
-    Shape::Itm(ItmShape::Extension(false)),
-    Shape::Itm(ItmShape::Extension(true)),
-];
-
-const EXCEPTIONS: [Shape; 3] = [
-    Shape::Dwt(DwtShape::Exception(Change::Enter)),
-    Shape::Dwt(DwtShape::Exception(Change::Exit)),
-    Shape::Dwt(DwtShape::Exception(Change::Return)),
-];
-
-const COMPARATORS: [Shape; 8] = [
-    Shape::Dwt(DwtShape::MatchPc),
-    Shape::Dwt(DwtShape::MatchAddress),
-    Shape::Dwt(DwtShape::Read(Size::One)),
-    Shape::Dwt(DwtShape::Read(Size::Two)),
-    Shape::Dwt(DwtShape::Read(Size::Four)),
-    Shape::Dwt(DwtShape::Written(Size::One)),
-    Shape::Dwt(DwtShape::Written(Size::Two)),
-    Shape::Dwt(DwtShape::Written(Size::Four)),
-];
-
-const OTHERS: [Shape; 3] = [
-    Shape::Dwt(DwtShape::Other(Size::One)),
-    Shape::Dwt(DwtShape::Other(Size::Two)),
-    Shape::Dwt(DwtShape::Other(Size::Four)),
-];
-
-const DATA: [Shape; 10] = [
-    Shape::Stp(StpShape::Datum(Width::Four, false)),
-    Shape::Stp(StpShape::Datum(Width::Four, true)),
-    Shape::Stp(StpShape::Datum(Width::Eight, false)),
-    Shape::Stp(StpShape::Datum(Width::Eight, true)),
-    Shape::Stp(StpShape::Datum(Width::Sixteen, false)),
-    Shape::Stp(StpShape::Datum(Width::Sixteen, true)),
-    Shape::Stp(StpShape::Datum(Width::ThirtyTwo, false)),
-    Shape::Stp(StpShape::Datum(Width::ThirtyTwo, true)),
-    Shape::Stp(StpShape::Datum(Width::SixtyFour, false)),
-    Shape::Stp(StpShape::Datum(Width::SixtyFour, true)),
-];
-
-/// The shapes of the items whose texts begin with this word.
-fn shapes_named(word: &str) -> &'static [Shape]
-    ensures { result.now ≡ shapes_named word.now }
+/// The shape of the item of this word and of these after it.
+fn shape_after(word: &[u8], words: &[&[u8]]) -> Option<Shape>
+    ensures { result ≡ fitting_first (shapes_named word.now) (texts words.now) }
 {
-    match word {
-        "sync" => &[Shape::Itm(ItmShape::Sync)],
-        "overflow" => &[Shape::Itm(ItmShape::Overflow)],
-        "port" => &PORTS,
-        "local" => &LOCALS,
-        "global1" => &[Shape::Itm(ItmShape::GlobalFirst)],
-        "global2" => &SECONDS,
-        "ext" => &EXTENSIONS,
-        "counters" => &[Shape::Dwt(DwtShape::Counters)],
-        "exception" => &EXCEPTIONS,
-        "pc" => &[Shape::Dwt(DwtShape::Sample)],
-        "asleep" => &[Shape::Dwt(DwtShape::Asleep)],
-        "cmp" => &COMPARATORS,
-        "hw" => &OTHERS,
-        "async" => &[Shape::Stp(StpShape::Async)],
-        "version" => &[Shape::Stp(StpShape::Version)],
-        "merr" => &[Shape::Stp(StpShape::MasterError)],
-        "gerr" => &[Shape::Stp(StpShape::GlobalError)],
-        "data" => &DATA,
-        "flag" => &[Shape::Stp(StpShape::Flag)],
-        "trig" => &[Shape::Stp(StpShape::Trigger)],
-        "freq" => &[Shape::Stp(StpShape::Frequency)],
-        "nullts" => &[Shape::Stp(StpShape::NullStamp)],
-        "raw" => &[Shape::Raw],
-        _ => &[],
-    }
-}
-
-/// A word as text. Only a word that is text begins an item.
-fn text_of(word: &[u8]) -> &str
-    ensures { shapes_named result.now ≡ shapes_named word.now }
-{
-    match str::from_utf8(word) {
-        Ok(text) => text,
-        Err(_) => "",
-    }
+    first_fitting(rows_in(&TEXTS, word), words)
 }
 
 /// The shape of the item of these words.
@@ -190,6 +179,6 @@ pub fn shape_of(words: &[&[u8]]) -> Option<Shape>
 {
     match words {
         [] => None,
-        [word, words @ ..] => first_fitting(shapes_named(text_of(word)), words),
+        [word, words @ ..] => shape_after(word, words),
     }
 }

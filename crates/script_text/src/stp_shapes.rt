@@ -1,16 +1,14 @@
 //! The texts of STP items, by their words.
 
-ghost use Rattle.std.specs.Prelude.{◌≡◌, ◌<◌, ◌≤◌, ◌/◌, map, true, false};
+ghost use Rattle.std.specs.Prelude.{◌≡◌, ◌<◌, ◌≤◌, ◌/◌, true, false};
 ghost use Rattle.script_text.specs.Names.{bits_of};
 ghost use Rattle.script_text.specs.Words.{texts};
 ghost use Rattle.script_text.specs.Numbers.{hexadecimal_at as hexadecimal_in};
-ghost use Rattle.script_text.specs.Shapes.{seen, fields_of};
 ghost use Rattle.script_text.specs.Items.{stp_of as stp_in};
 ghost use Rattle.script_text.specs.Table.{null_stamp as null_in};
 
 use crate::numbers::{byte_at, decimal_at, hexadecimal_at};
 use crate::places::known_at;
-use crate::shapes::{Field, Shape};
 use crate::stamps::stamp_at;
 use stp_grammar::item::{Place, Stamp, StpItem};
 use stp_grammar::packet::Width;
@@ -28,56 +26,6 @@ pub enum StpShape {
     Trigger,
     Frequency,
     NullStamp,
-}
-
-macro_rules! datum {
-    ($width:literal, $mark:literal) => {
-        &[
-            Field::Number,
-            Field::Number,
-            Field::Word($width),
-            Field::Number,
-            Field::Word($mark),
-            Field::Number,
-        ]
-    };
-}
-
-/// The words of a datum after the first.
-fn datum_fields(width: Width, marked: bool) -> &'static [Field]
-    ensures { map seen result.now ≡ fields_of (Shape.Stp (StpShape.Datum width marked)) }
-{
-    match (width, marked) {
-        (Width::Four, false) => datum!("u4", "-"),
-        (Width::Four, true) => datum!("u4", "m"),
-        (Width::Eight, false) => datum!("u8", "-"),
-        (Width::Eight, true) => datum!("u8", "m"),
-        (Width::Sixteen, false) => datum!("u16", "-"),
-        (Width::Sixteen, true) => datum!("u16", "m"),
-        (Width::ThirtyTwo, false) => datum!("u32", "-"),
-        (Width::ThirtyTwo, true) => datum!("u32", "m"),
-        (Width::SixtyFour, false) => datum!("u64", "-"),
-        (Width::SixtyFour, true) => datum!("u64", "m"),
-    }
-}
-
-impl StpShape {
-    /// The words after the first.
-    pub fn fields(&self) -> &'static [Field]
-        ensures { map seen result.now ≡ fields_of (Shape.Stp self.now) }
-    {
-        match *self {
-            StpShape::Async => &[],
-            StpShape::Version | StpShape::GlobalError | StpShape::NullStamp => &[Field::Number],
-            StpShape::MasterError | StpShape::Flag => &[
-                Field::Number,
-                Field::Number,
-                Field::Number,
-            ],
-            StpShape::Datum(width, marked) => datum_fields(width, marked),
-            StpShape::Trigger | StpShape::Frequency => &[Field::Number, Field::Number],
-        }
-    }
 }
 
 /// How many digits a datum of this width has.
