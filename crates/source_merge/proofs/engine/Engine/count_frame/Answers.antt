@@ -1,4 +1,4 @@
-use Rattle.std.proofs.Common.{◌≡◌, ◌≤◌, List, ℕ, ◌++◌, length, take, sym, ◌∙◌, ap, subst}
+use Rattle.std.proofs.Common.{◌≡◌, ◌≤◌, List, ℕ, ◌++◌, length, take, sym, ◌∙◌, ap, subst, arith}
 use Rattle.std.proofs.lemmas.List.{length-take-le}
 use Rattle.source_merge.specs.Names.{placed_from, IsProperFrame}
 use Rattle.frame_grammar.specs.Whole.{IsWhole}
@@ -21,3 +21,22 @@ returns-in-Some-gather_frame_at-clause-list c = λ u h.
     (λ (n : ℕ). Stands c.count_whole-in-Some-gather_frame_at.new.self (u ++ placed_from c.args.at (take n c.args.piece.now)))
     (sym c.size.ensures)
     (c.count_whole-in-Some-gather_frame_at.ensures.list u _ h c.in-Some-gather_frame_at.ensures.whole)
+
+-- the frame is no longer than the piece
+pub count_whole-requires-in-Some-gather_frame_at-clause-offsets : goal.count_whole-requires-in-Some-gather_frame_at-clause-offsets
+count_whole-requires-in-Some-gather_frame_at-clause-offsets c =
+    let first = c.requires.offsets in
+    let room = c.in-Some-gather_frame_at.ensures.room in
+    (first.0, let last = first.1 in omega (arith, last, room))
+
+pub returns-in-Some-gather_frame_at-clause-bytes : goal.returns-in-Some-gather_frame_at-clause-bytes
+returns-in-Some-gather_frame_at-clause-bytes c =
+    let size = c.size.ensures in
+    let room = c.in-Some-gather_frame_at.ensures.room in
+    (omega (arith, size), omega (arith, size, room))
+
+pub returns-in-Some-gather_frame_at-clause-next : goal.returns-in-Some-gather_frame_at-clause-next
+returns-in-Some-gather_frame_at-clause-next c =
+    let size = c.size.ensures in
+    let next = c.count_whole-in-Some-gather_frame_at.ensures.next in
+    omega (arith, size, next)

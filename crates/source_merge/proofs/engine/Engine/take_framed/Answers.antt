@@ -1,8 +1,63 @@
-use Rattle.std.proofs.Common.{◌+◌, ◌*◌, take}
+use Rattle.std.proofs.Common.{◌≡◌, ℕ, ◌+◌, ◌*◌, ◌++◌, [], take, sym, subst, arith}
 use Rattle.frame_grammar.proofs.Wholes.{whole_proper}
+use Rattle.frame_runs.specs.Gathered.{IsGathered, frame_places}
+use Rattle.source_merge.specs.Names.{FedAs, placed_from, offsets_of, without_halves}
+use Rattle.source_merge.specs.Answering.{Answers}
+use Rattle.source_merge.specs.declared.flow.Flow.TheVariants.{Going}
+use Rattle.source_merge.specs.Engine.{Stands, plan_of}
+use Rattle.source_merge.proofs.engine.Engine.take_framed.Given as bound
 use Rattle.source_merge.proofs.engine.Engine.take_framed.Goals as goal
 
 pub take_gathered-flow-requires-clause-proper : goal.take_gathered-flow-requires-clause-proper
 take_gathered-flow-requires-clause-proper g c =
     let frame = c.in-Some.frame in
     whole_proper (take (16 + 2 * frame.halves) c.args.piece.now) frame.bytes frame.halves c.in-Some.ensures.whole
+
+-- the frame is gathered from the bytes that it takes
+gathered : (g : bound.Over) → (c : goal.After-size g) →
+    IsGathered c.in-Some.frame.at (take (16 + 2 * c.in-Some.frame.halves) c.args.piece.now) c.in-Some.frame
+gathered g c =
+    let frame = c.in-Some.frame in
+    let bytes = take (16 + 2 * frame.halves) c.args.piece.now in
+    record {
+      whole = c.in-Some.ensures.whole;
+      offsets =
+          subst (λ (at : ℕ). frame_places frame ≡ offsets_of (without_halves (placed_from at bytes)))
+          (sym c.in-Some.ensures.at) c.in-Some.ensures.offsets;
+    }
+
+pub returns-in-Some-clause-takes : goal.returns-in-Some-clause-takes
+returns-in-Some-clause-takes g c =
+    let frame = c.in-Some.frame in
+    let piece = c.args.piece.now in
+    let new = c.take_gathered-flow.new.self in
+    let took = c.take_gathered-flow.ensures.takes in
+    let size = c.size.ensures in
+    let room = c.in-Some.ensures.room in
+    let at_is = c.in-Some.ensures.at in
+    record {
+      same = took.same;
+      bytes = (omega (arith, size), omega (arith, size, room));
+      next = let next = took.next in omega (arith, next, size, at_is);
+      live = took.live;
+      list = λ u h.
+          subst (λ (n : ℕ). Stands new (u ++ placed_from c.args.at (take n piece))) (sym size)
+          (subst (λ (at : ℕ). Stands new (u ++ placed_from at (take (16 + 2 * frame.halves) piece))) at_is
+          (took.list u (take (16 + 2 * frame.halves) piece) h (gathered g c)));
+    }
+
+pub returns-in-Some-clause-fed : goal.returns-in-Some-clause-fed
+returns-in-Some-clause-fed g c =
+    let frame = c.in-Some.frame in
+    let piece = c.args.piece.now in
+    let plan = plan_of c.args.self.now in
+    let fed = c.take_gathered-flow.ensures.fed in
+    let last = Answers plan fed.0 c.take_gathered-flow.result in
+    (
+      fed.0,
+      fed.1,
+      λ u h.
+          subst (λ (n : ℕ). FedAs (Answers plan [] Going) last u c.args.at (take n piece)) (sym c.size.ensures)
+          (subst (λ (at : ℕ). FedAs (Answers plan [] Going) last u at (take (16 + 2 * frame.halves) piece))
+          c.in-Some.ensures.at (fed.2 u (take (16 + 2 * frame.halves) piece) h (gathered g c))),
+    )
