@@ -52,8 +52,7 @@ returns-in-Some-clause-fed g c =
     let piece = c.args.piece.now in
     let plan = plan_of c.args.self.now in
     let fed = c.take_gathered-flow.ensures.fed in
-    let last = Answers plan fed.0 c.take_gathered-flow.result in
-    (
+    let last = Answers plan fed.0 c.take_gathered-flow.result in (
       fed.0,
       fed.1,
       λ u h.
