@@ -1,4 +1,4 @@
-use Rattle.std.proofs.Common.{Bool, ◌++◌, [], ◌∙◌, ap, sym, cond, append-nil}
+use Rattle.std.proofs.Common.{Bool, ◌++◌, [], ◌∙◌, ap, sym, cond, append-nil, refl}
 use Rattle.trace_text.specs.LineText.{doubted}
 use Rattle.capture_actions.specs.Names.{Plan, Remark, event_line}
 use Rattle.capture_actions.specs.Faulty.{is_stp}
@@ -27,3 +27,15 @@ returns-else-lists_guess-clause-line c = λ clocked seen h f.
     let p = plan_by c.args.self.now.plan c.args.self.now.filter in
     let line = doubted (event_line (is_stp p.plan e.source) e (remark_of (itm_packets e.source clocked) e.what)) in
     sym (append-nil at) ∙ ap (λ (b : Bool). at ++ cond b line []) (sym c.if-lists_guess.false ∙ c.lists_guess.ensures seen f)
+
+pub returns-then-lists_guess-clause-own : goal.returns-then-lists_guess-clause-own
+returns-then-lists_guess-clause-own c = refl
+
+pub returns-then-lists_guess-clause-clocks : goal.returns-then-lists_guess-clause-clocks
+returns-then-lists_guess-clause-clocks c = λ es h. c.remark-remark.ensures.stand es h
+
+pub returns-else-lists_guess-clause-own : goal.returns-else-lists_guess-clause-own
+returns-else-lists_guess-clause-own c = refl
+
+pub returns-else-lists_guess-clause-clocks : goal.returns-else-lists_guess-clause-clocks
+returns-else-lists_guess-clause-clocks c = λ es h. c.remark-remark.ensures.stand es h
