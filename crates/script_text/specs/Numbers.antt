@@ -4,6 +4,7 @@ use Rattle.std.specs.List.{list_all}
 use Rattle.std.specs.Char.{is_ascii_hexdigit}
 use Rattle.std.specs.Str.Parse.{digits_value}
 use Rattle.script_text.specs.Names.{number_named}
+use Rattle.script_text.specs.Steps.{◌>>=◌}
 use Rattle.script_text.specs.Words.{word_of}
 
 -- the number of exactly this many hexadecimal digits, in either case, most significant first
@@ -17,3 +18,10 @@ decimal_at greatest words k = number_named 0 greatest (word_of words k)
 
 abbrev pub hexadecimal_at : ℕ → List (List ℕ) → ℕ → Option ℕ
 hexadecimal_at count words k = hexadecimal_named count (word_of words k)
+
+-- the decimal that the word after the first is, and the value that the word of this number is, as values of a row
+abbrev pub numbers_at : ℕ → ℕ → List (List ℕ) → ℕ → Option (ℕ × (ℕ × Unit {0}))
+numbers_at greatest count words k = do
+  number ← decimal_at greatest words 1
+  rest ← hexadecimal_at count words k >>= λ value. Some (value, tt)
+  Some (number, rest)

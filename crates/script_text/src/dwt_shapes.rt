@@ -5,7 +5,7 @@ ghost use Rattle.script_text.specs.Words.{texts};
 ghost use Rattle.script_text.specs.Items.{dwt_of as dwt_in};
 ghost use Rattle.script_text.specs.Table.{counters_within, unnamed as unnamed_in};
 
-use crate::numbers::{byte_at, decimal_at, value_at};
+use crate::numbers::{byte_at, decimal_at, numbers_at, value_at};
 use dwt_packets::{Change, DwtItem, meaning};
 use itm_grammar::packet::Size;
 
@@ -69,18 +69,16 @@ pub fn dwt_of(shape: DwtShape, words: &[&[u8]]) -> Option<DwtItem>
         }
         DwtShape::Asleep => Some(DwtItem::Asleep),
         DwtShape::MatchPc => {
-            let comparator = decimal_at(3, words, 1)? as u8;
-            let pc = value_at(Size::Four, words, 3)?;
+            let (comparator, pc) = numbers_at(3, Size::Four, words, 3)?;
             Some(DwtItem::MatchPc { comparator, pc })
         }
         DwtShape::MatchAddress => {
-            let comparator = decimal_at(3, words, 1)? as u8;
-            let low = value_at(Size::Two, words, 3)? as u16;
+            let (comparator, low) = numbers_at(3, Size::Two, words, 3)?;
+            let low = low as u16;
             Some(DwtItem::MatchAddress { comparator, low })
         }
         DwtShape::Read(size) => {
-            let comparator = decimal_at(3, words, 1)? as u8;
-            let value = value_at(size, words, 4)?;
+            let (comparator, value) = numbers_at(3, size, words, 4)?;
             Some(DwtItem::Read {
                 comparator,
                 size,
@@ -88,8 +86,7 @@ pub fn dwt_of(shape: DwtShape, words: &[&[u8]]) -> Option<DwtItem>
             })
         }
         DwtShape::Written(size) => {
-            let comparator = decimal_at(3, words, 1)? as u8;
-            let value = value_at(size, words, 4)?;
+            let (comparator, value) = numbers_at(3, size, words, 4)?;
             Some(DwtItem::Written {
                 comparator,
                 size,
@@ -97,8 +94,7 @@ pub fn dwt_of(shape: DwtShape, words: &[&[u8]]) -> Option<DwtItem>
             })
         }
         DwtShape::Other(size) => {
-            let disc = decimal_at(31, words, 1)? as u8;
-            let value = value_at(size, words, 3)?;
+            let (disc, value) = numbers_at(31, size, words, 3)?;
             unnamed(meaning(disc, size, value))
         }
     }

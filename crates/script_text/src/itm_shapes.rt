@@ -5,7 +5,7 @@ ghost use Rattle.script_text.specs.Words.{texts};
 ghost use Rattle.script_text.specs.Items.{itm_of as itm_in};
 ghost use Rattle.script_text.specs.Table.{first_checked as checked_by};
 
-use crate::numbers::{decimal_at, value_at};
+use crate::numbers::{decimal_at, numbers_at, value_at};
 use itm_grammar::packet::{ItmPacket, Lateness, Size};
 use itm_grammar::proper::is_proper;
 
@@ -61,8 +61,7 @@ pub fn itm_of(shape: ItmShape, words: &[&[u8]]) -> Option<ItmPacket>
         ItmShape::Sync => Some(ItmPacket::Sync),
         ItmShape::Overflow => Some(ItmPacket::Overflow),
         ItmShape::Software(size) => {
-            let port = decimal_at(31, words, 1)? as u8;
-            let value = value_at(size, words, 3)?;
+            let (port, value) = numbers_at(31, size, words, 3)?;
             Some(ItmPacket::Software { port, size, value })
         }
         ItmShape::Local(lateness) => {

@@ -1,13 +1,14 @@
 //! Numbers of words.
 
 ghost use Rattle.std.specs.Prelude.{◌≡◌, ◌⊎◌, ◌≤◌, ◌<◌, ◌^◌, ◌*◌, ◌+◌, length, true, None, Some, IfSome, if◌then◌else◌};
+ghost use Rattle.std.specs.Prelude.{option_map};
 ghost use Rattle.std.specs.List.{list_all};
 ghost use Rattle.std.specs.Char.{is_ascii_hexdigit, digit_value};
 ghost use Rattle.std.specs.Str.Parse.{digits_value};
 ghost use Rattle.script_text.specs.Names.{byte_count};
 ghost use Rattle.script_text.specs.Words.{texts};
 ghost use Rattle.script_text.specs.Numbers.{hexadecimal_named as named, decimal_at as decimal_in};
-ghost use Rattle.script_text.specs.Numbers.{hexadecimal_at as hexadecimal_in};
+ghost use Rattle.script_text.specs.Numbers.{hexadecimal_at as hexadecimal_in, numbers_at as numbers_in};
 
 use crate::words::word_of;
 use decimal_words::number_in;
@@ -116,4 +117,16 @@ pub fn value_at(size: Size, words: &[&[u8]], k: usize) -> Option<u32>
     ensures fits { IfSome result (λ n. n < 256 ^ byte_count size) }
 {
     value_named(size, word_of(words, k))
+}
+
+/// The decimal number up to this one that the word after the first is, and the value of this size that the word of this
+/// number is.
+pub fn numbers_at(greatest: u8, size: Size, words: &[&[u8]], k: usize) -> Option<(u8, u32)>
+    ensures value { option_map (λ p. (p.0, (p.1, tt))) result
+        ≡ numbers_in greatest (2 * byte_count size) (texts words.now) k }
+    ensures fits { IfSome result (λ p. (p.0 ≤ greatest) × (p.1 < 256 ^ byte_count size)) }
+{
+    let number = decimal_at(u64::from(greatest), words, 1)? as u8;
+    let value = value_at(size, words, k)?;
+    Some((number, value))
 }
