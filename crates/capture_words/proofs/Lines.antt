@@ -3,12 +3,19 @@ use Rattle.std.proofs.Common.{◌≡◌, ◌≤◌, ℕ, length, refl, arith, li
 use Rattle.std.specs.Fmt.{decimal}
 use Rattle.std.proofs.lemmas.Fmt.{length-decimal-le}
 use Rattle.std.proofs.lemmas.Grind.{common_steps}
+use Rattle.capture_words.specs.Command.{option_name}
 use Rattle.capture_words.specs.Texts.{usage_line, IsFault}
+use Rattle.capture_words.specs.declared.option.CommandOption.{CommandOption}
 use Rattle.capture_words.specs.declared.option.CommandOption.TheVariants.{Frames}
 use Rattle.capture_words.specs.declared.usage.TheConstants.{LINE_ROOM}
 use Rattle.capture_words.specs.declared.usage.UsageFault.{UsageFault}
 use Rattle.capture_words.specs.declared.usage.UsageFault.TheVariants.{BadValue, MappedTwice, OrderedTwice}
 use Rattle.capture_words.specs.declared.usage.UsageFault.TheVariants.{PointerNotUnderSize}
+
+-- the name of an option
+pub short_name : (option : CommandOption) → length (option_name option) ≤ 9
+short_name Frames = lit≤ tt
+short_name option = lit≤ tt
 
 short_id : (id : ℕ) → id ≤ 126 → length (decimal id) ≤ 3
 short_id id is = length-decimal-le 3 id (omega arith) (omega (arith, is)) (omega (arith, is))

@@ -1,5 +1,5 @@
 -- What all options say: the default of each where it is absent, and else what its text names.
-use Rattle.std.specs.Prelude.{ℕ, ◌^◌, List, [], ◌∷◌, Option, Some, None, Result, Ok, Err, false, ok_or, option_map}
+use Rattle.std.specs.Prelude.{◌^◌, List, [], ◌∷◌, Option, Some, None, Result, Ok, Err, false, ok_or, option_map}
 use Rattle.clap.specs.Words.{Row, Text, first_of}
 use Rattle.decimal_words.specs.Numbers.{number_named}
 use Rattle.stp_grammar.specs.declared.packet.Order.TheVariants.{Msn}

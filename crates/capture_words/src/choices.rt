@@ -99,7 +99,6 @@ impl Listed for Choices {
 }
 
 /// The window of this text: two choices with a comma between them.
-#[tactic(auto, using(crate::proofs::Windows::no_window))]
 pub fn window_named(text: &str) -> Option<Bounds>
     ensures { result ≡ window_named text.now }
 {

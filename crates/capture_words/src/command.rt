@@ -30,10 +30,10 @@ fn with_option<'a>(
 ) -> Result<Command<'a>, AllocError>
     ensures { IfOk result (λ c. app_of c ≡ with_rule (app_of command.entry) (option_rule option)) }
 {
-    let name = option.name();
+    let (name, help) = option.texts();
     let arg = Arg::new(alloc, name)
         .long(name)
-        .help(option.help())
+        .help(help)
         .action(ArgAction::Set);
     command.arg(arg)
 }

@@ -82,118 +82,121 @@ pub(crate) const ALL_OPTIONS: [CommandOption; 23] = [
 ];
 
 impl CommandOption {
+    /// The name of the option, after the two dashes, and what `--help` says of it.
+    pub(crate) fn texts<'a>(self) -> (&'a str, &'a str)
+        ensures { result.0.now ≡ option_name self }
+    {
+        match self {
+            CommandOption::Frames => (
+                "frames",
+                "Where frames begin: hunt (at the first full synchronisation, the default), aligned (at the \
+                first byte) or bare (there are none)",
+            ),
+            CommandOption::Packets => (
+                "packets",
+                "Where packets begin: hunt (at the first synchronisation packet, the default) or aligned (at \
+                the first byte)",
+            ),
+            CommandOption::Itm => (
+                "itm",
+                "The sources that send ITM packets: one to eight from 1 to 111, with commas between",
+            ),
+            CommandOption::Stp => (
+                "stp",
+                "The sources that send STP packets: one to eight from 1 to 111, with commas between",
+            ),
+            CommandOption::StpOrder => (
+                "stp-order",
+                "Which nibble of an STP value comes first: msn (the most significant, the default) or lsn \
+                (the least significant)",
+            ),
+            CommandOption::Id => ("id", "The source whose bytes split writes: 0 to 126"),
+            CommandOption::Only => (
+                "only",
+                "Which events show lists: itm, dwt, stp, raw, trigger, time (the timestamps of ITM sources), id=N (of \
+                source N, 1 to 126), port=N (of stimulus port N, 0 to 31) or cmp=N (of comparator N, 0 to 3), or those \
+                of one to eight of these choices with commas between, as in dwt,time",
+            ),
+            CommandOption::Window => (
+                "window",
+                "From which event to which show lists: two of the choices of --only with a comma between, as in \
+                port=1,port=2",
+            ),
+            CommandOption::Sync => (
+                "sync",
+                "How many frames rebuild or funnel writes for each full synchronisation, which comes before them: \
+                0 (there are none) to 1000000, 64 where it is not given",
+            ),
+            CommandOption::Half => (
+                "half",
+                "How many half synchronisations rebuild or funnel writes in each gap of a frame: 0 (the default) \
+                to 8",
+            ),
+            CommandOption::Limit => (
+                "limit",
+                "How many bytes are read at most: 1 to 68719476736, which is the default",
+            ),
+            CommandOption::Items => (
+                "items",
+                "How many items exercise makes: 1 to 1000000, 12000 where it is not given",
+            ),
+            CommandOption::Lose => (
+                "lose",
+                "How many bytes exercise loses at the front: 0 (the default) to 1000000",
+            ),
+            CommandOption::Recover => (
+                "recover",
+                "Whether show, check, text and vcd go on after a fault, at the next synchronisation: off (the default), on, \
+                or near, which tells what a source may have said until then, too",
+            ),
+            CommandOption::Size => (
+                "size",
+                "How many bytes the trace buffer of ring or unring has: 16 to 16777216",
+            ),
+            CommandOption::Pointer => (
+                "pointer",
+                "Where the trace buffer of unring would have put its next byte: 0 (the default) to 16777215, and \
+                under its size",
+            ),
+            CommandOption::Full => (
+                "full",
+                "Whether the trace buffer of unring took as many bytes as it has, or more: 0 (no, the default) or \
+                1 (yes)",
+            ),
+            CommandOption::Order => (
+                "order",
+                "The sources of a funnel in the order of their turns: 1 to 16 IDs from 1 to 126, with commas between",
+            ),
+            CommandOption::Hold => (
+                "hold",
+                "How many bytes a source of a funnel gives in its turn at most: 1 to 15, 4 where it is not given",
+            ),
+            CommandOption::Depth => (
+                "depth",
+                "How many bytes each queue of a funnel has at most: 1 to 4096, 256 where it is not given",
+            ),
+            CommandOption::Port => (
+                "port",
+                "The stimulus port whose bytes text writes: 0 (the default) to 31",
+            ),
+            CommandOption::Hz => (
+                "hz",
+                "How many ticks of the local timestamps vcd has in a second, so that its times are nanoseconds: 1 to \
+                1000000000000; where it is not given a tick is a nanosecond",
+            ),
+            CommandOption::Kinds => (
+                "kinds",
+                "Whether check counts the items of each kind, too: off (the default) or on",
+            ),
+        }
+    }
+
     /// The name of the option, after the two dashes, at the lifetime of the command that takes it.
+    #[tactic(auto, using(crate::proofs::Lines::short_name))]
     pub fn name<'a>(self) -> &'a str
         ensures name { result.now ≡ option_name self }
         ensures short { length result.now ≤ 9 }
     {
-        match self {
-            CommandOption::Frames => "frames",
-            CommandOption::Packets => "packets",
-            CommandOption::Itm => "itm",
-            CommandOption::Stp => "stp",
-            CommandOption::StpOrder => "stp-order",
-            CommandOption::Id => "id",
-            CommandOption::Only => "only",
-            CommandOption::Window => "window",
-            CommandOption::Sync => "sync",
-            CommandOption::Half => "half",
-            CommandOption::Limit => "limit",
-            CommandOption::Items => "items",
-            CommandOption::Lose => "lose",
-            CommandOption::Recover => "recover",
-            CommandOption::Size => "size",
-            CommandOption::Pointer => "pointer",
-            CommandOption::Full => "full",
-            CommandOption::Order => "order",
-            CommandOption::Hold => "hold",
-            CommandOption::Depth => "depth",
-            CommandOption::Port => "port",
-            CommandOption::Hz => "hz",
-            CommandOption::Kinds => "kinds",
-        }
-    }
-
-    /// What `--help` says of the option.
-    pub(crate) fn help<'a>(self) -> &'a str {
-        match self {
-            CommandOption::Frames => {
-                "Where frames begin: hunt (at the first full synchronisation, the default), aligned (at the \
-                first byte) or bare (there are none)"
-            }
-            CommandOption::Packets => {
-                "Where packets begin: hunt (at the first synchronisation packet, the default) or aligned (at \
-                the first byte)"
-            }
-            CommandOption::Itm => {
-                "The sources that send ITM packets: one to eight from 1 to 111, with commas between"
-            }
-            CommandOption::Stp => {
-                "The sources that send STP packets: one to eight from 1 to 111, with commas between"
-            }
-            CommandOption::StpOrder => {
-                "Which nibble of an STP value comes first: msn (the most significant, the default) or lsn \
-                (the least significant)"
-            }
-            CommandOption::Id => "The source whose bytes split writes: 0 to 126",
-            CommandOption::Only => {
-                "Which events show lists: itm, dwt, stp, raw, trigger, time (the timestamps of ITM sources), id=N (of \
-                source N, 1 to 126), port=N (of stimulus port N, 0 to 31) or cmp=N (of comparator N, 0 to 3), or those \
-                of one to eight of these choices with commas between, as in dwt,time"
-            }
-            CommandOption::Window => {
-                "From which event to which show lists: two of the choices of --only with a comma between, as in \
-                port=1,port=2"
-            }
-            CommandOption::Sync => {
-                "How many frames rebuild or funnel writes for each full synchronisation, which comes before them: \
-                0 (there are none) to 1000000, 64 where it is not given"
-            }
-            CommandOption::Half => {
-                "How many half synchronisations rebuild or funnel writes in each gap of a frame: 0 (the default) \
-                to 8"
-            }
-            CommandOption::Limit => {
-                "How many bytes are read at most: 1 to 68719476736, which is the default"
-            }
-            CommandOption::Items =>
-                "How many items exercise makes: 1 to 1000000, 12000 where it is not given",
-            CommandOption::Lose => {
-                "How many bytes exercise loses at the front: 0 (the default) to 1000000"
-            }
-            CommandOption::Recover => {
-                "Whether show, check, text and vcd go on after a fault, at the next synchronisation: off (the default), on, \
-                or near, which tells what a source may have said until then, too"
-            }
-            CommandOption::Size => {
-                "How many bytes the trace buffer of ring or unring has: 16 to 16777216"
-            }
-            CommandOption::Pointer => {
-                "Where the trace buffer of unring would have put its next byte: 0 (the default) to 16777215, and \
-                under its size"
-            }
-            CommandOption::Full => {
-                "Whether the trace buffer of unring took as many bytes as it has, or more: 0 (no, the default) or \
-                1 (yes)"
-            }
-            CommandOption::Order => {
-                "The sources of a funnel in the order of their turns: 1 to 16 IDs from 1 to 126, with commas between"
-            }
-            CommandOption::Hold => {
-                "How many bytes a source of a funnel gives in its turn at most: 1 to 15, 4 where it is not given"
-            }
-            CommandOption::Depth => {
-                "How many bytes each queue of a funnel has at most: 1 to 4096, 256 where it is not given"
-            }
-            CommandOption::Port =>
-                "The stimulus port whose bytes text writes: 0 (the default) to 31",
-            CommandOption::Hz => {
-                "How many ticks of the local timestamps vcd has in a second, so that its times are nanoseconds: 1 to \
-                1000000000000; where it is not given a tick is a nanosecond"
-            }
-            CommandOption::Kinds => {
-                "Whether check counts the items of each kind, too: off (the default) or on"
-            }
-        }
+        self.texts().0
     }
 }
