@@ -14,7 +14,6 @@ use Rattle.capture_words.specs.declared.option.CommandOption.TheVariants.{Frames
 use Rattle.capture_words.specs.declared.option.CommandOption.TheVariants.{Only, Window, Sync, Half, Limit, Items}
 use Rattle.capture_words.specs.declared.option.CommandOption.TheVariants.{Lose, Recover, Size, Pointer, Full, Order}
 use Rattle.capture_words.specs.declared.option.CommandOption.TheVariants.{Hold, Depth, Port, Hz, Kinds}
-use Rattle.capture_words.specs.declared.option.TheConstants.{ALL_OPTIONS}
 use Rattle.capture_words.specs.declared.recover.Recover.TheVariants.{Off}
 use Rattle.capture_words.specs.declared.settings.Settings.{Settings}
 use Rattle.capture_words.specs.declared.usage.UsageFault.{UsageFault}
@@ -93,6 +92,12 @@ all_given rows [] s = Ok s
 all_given rows (option ∷ options) s =
     ok_or (given s option (first_of (option_name option) rows)) (BadValue option) >>= all_given rows options
 
--- what all options say, or the first fault in the order of the command
+-- the options in the order in which their values are looked at
+abbrev pub in_order : List CommandOption
+in_order =
+    Frames ∷ Packets ∷ Itm ∷ Stp ∷ StpOrder ∷ Id ∷ Only ∷ Window ∷ Sync ∷ Half ∷ Limit ∷ Items ∷ Lose ∷ Recover ∷ Size
+    ∷ Pointer ∷ Full ∷ Order ∷ Hold ∷ Depth ∷ Port ∷ Hz ∷ Kinds ∷ []
+
+-- what all options say, or the first fault in that order
 abbrev pub settings_in : List Row → Result Settings UsageFault
-settings_in rows = all_given rows ALL_OPTIONS defaults
+settings_in rows = all_given rows in_order defaults
