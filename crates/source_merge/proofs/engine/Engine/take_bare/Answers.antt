@@ -1,4 +1,5 @@
-use Rattle.std.proofs.Common.{◌≡◌, ℕ, zero, suc, ◌≤◌, List, [], ◌∷◌, ◌++◌, length, take, refl, ◌∙◌, ap, subst, arith}
+use Rattle.std.proofs.Common.{◌≡◌, ℕ, zero, suc, ◌≤◌, List, [], ◌∷◌, ◌++◌, length, take, refl, ◌∙◌, ap, subst, arith, rules}
+use Rattle.std.proofs.lemmas.List.{length-take-le, take_at}
 use Rattle.source_merge.specs.Names.{Placed, placed_from}
 use Rattle.source_merge.specs.declared.engine.Engine.{Engine}
 use Rattle.source_merge.specs.declared.flow.Fed.{Fed}
@@ -46,3 +47,27 @@ returns-then-piece-gt-END_ROOM-clause-reads g c =
     (ReadsTo c.args.self.now c.args.at l c.take_piece.result.flow))
     (same c.take_piece.result.bytes c.min-count.result _ c.args.piece.now refl c.take_piece.ensures.takes.bytes.1)
     c.take_piece.ensures.reads
+
+-- the bytes that are copied to the front of others are those of the piece
+copied : (count : ℕ) (bytes rest piece : List ℕ) → count ≤ length piece → bytes ≡ take count piece →
+    take count (bytes ++ rest) ≡ take count piece
+copied count bytes rest piece within e =
+    take_at bytes rest count (ap length e ∙ length-take-le count piece within) ∙ e
+
+pub returns-clause-takes : goal.returns-clause-takes
+returns-clause-takes g c =
+    takes c.args.self.now c.take_piece-2.new.self c.args.at c.min-count-2.result _ c.args.piece.now c.take_piece-2.result
+    (copied c.min-count-2.result c.copy_from_slice.new.self _ c.args.piece.now
+    (let w : c.min-count-2.result ≤ length c.args.piece.now = search rules in w) c.copy_from_slice.ensures.after)
+    c.take_piece-2.ensures.takes
+
+pub returns-clause-reads : goal.returns-clause-reads
+returns-clause-reads g c =
+    subst
+    (λ (l : List ℕ). GivesTo g.V.Receiver.gets (c.args.out.now, c.args.to.now) (c.take_piece-2.new.out, c.take_piece-2.new.to)
+    (ReadsTo c.args.self.now c.args.at l c.take_piece-2.result.flow))
+    (same c.take_piece-2.result.bytes c.min-count-2.result _ c.args.piece.now
+    (copied c.min-count-2.result c.copy_from_slice.new.self _ c.args.piece.now
+    (let w : c.min-count-2.result ≤ length c.args.piece.now = search rules in w) c.copy_from_slice.ensures.after)
+    c.take_piece-2.ensures.takes.bytes.1)
+    c.take_piece-2.ensures.reads
