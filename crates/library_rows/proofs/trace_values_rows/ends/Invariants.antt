@@ -1,5 +1,0 @@
-use Rattle.std.proofs.Common.{◌≤◌}
-use Rattle.library_rows.proofs.trace_values_rows.ends.Given as goal
-
-abbrev pub invariant-loop-unit : goal.invariant-loop-unit
-invariant-loop-unit l = l.run ≤ l.pattern.most
