@@ -16,11 +16,11 @@
 //! - `run BYTES` is a row: the call over these bytes.
 //! - `each-read BYTES` is a row, and then each of its reads fails, one at a time, for each number of `reads`.
 //! - `each-write BYTES` is the same with its writes, for each number of `writes`.
-//! - Any other line is a row too: a library, a call of it, and the call's arguments, with a blank between two words. What
+//! - Any other line is a row too: a library, a call of it, and the call's arguments, with blanks between. What
 //!   the arguments are is told at the function that reads them, and how numbers and bytes are written in `notation`.
 //!   Between two items or two packets there is a `,` and no blank.
 //!
-//! BYTES are, with a blank between two of them: hexadecimal digits, `HH..*N` (N times these bytes), `NAME`, `NAME[A..B]` (a
+//! BYTES are, with a blank between two of them: hexadecimal digits, `HH..*N` (N times these), `NAME`, `NAME[A..B]` (a
 //! part of named bytes; each end may be missing), and at the end `'` and any text, in which `\n` is a line feed, `\r` a
 //! carriage return and `\\` a backslash. Before them a row may have
 //!
@@ -31,7 +31,7 @@
 //!
 //! # Lines of an answer
 //!
-//! Of a call of the program there is one answer for all numbers of `reads`, `writes` and `notes`; that one of them gives another is told by `?`.
+//! A call of the program has one answer for all `reads`, `writes` and `notes`; that one gives another is told by `?`.
 //!
 //! - `  | TEXT` is a line that is written, and `  |~ TEXT` the last one, if it has no line feed.
 //! - `  : HH..` are bytes that are written, if they are no text.

@@ -143,7 +143,7 @@ fn put_end(decoder: &StpDecoder, out: &mut Out) {
     out.put("\n");
 }
 
-/// What a decoder says of the bytes one by one, how many nibbles it holds and skipped, and whether its reading has begun.
+/// What a decoder says of the bytes one by one, how many nibbles it holds and skipped, and whether it is locked.
 fn told(alloc: Global, mut decoder: StpDecoder, bytes: &[u8]) -> Out {
     let mut out = Out::new(alloc);
     for (at, byte) in bytes.iter().enumerate() {
@@ -153,7 +153,7 @@ fn told(alloc: Global, mut decoder: StpDecoder, bytes: &[u8]) -> Out {
     out
 }
 
-/// The same of the bytes in pieces of this size before this byte, where the part of a packet that a piece has is taken at
+/// The same of the bytes in pieces of this size before this byte, where the part of a packet in a piece is taken at
 /// once.
 fn told_in_pieces(
     alloc: Global,
