@@ -68,15 +68,21 @@ abbrev pub notes_of : Streams → Noted
 notes_of s = told s.noted s.note_faults
 
 -- How a run is noted once its input is served, by a plan that is that of the run: after what is noted of the bytes that
--- were fed.
-module _ {Plan : Type 0} (notes : Plan → TaskNotes) (plan now : Plan) (same : now ≡ plan) (action : Meaning)
-    (noted : List ℕ → List ℕ) (limit : ℕ) (old new : Streams) (mid : Noted) (recent : List ℕ)
-    (stands : List ℕ → Type 0) (later : mid.faults ≤ new.note_faults) where
+-- were fed. It is told of an equal plan.
+module _ {Plan : Type 0} (meaning : Plan → Meaning) (noted_by : Plan → List ℕ → List ℕ) (notes : Plan → TaskNotes)
+    (plan now asked : Plan) (same : now ≡ plan) (equal : plan ≡ asked) (limit : ℕ) (old new : Streams) (mid : Noted)
+    (recent : List ℕ) (stands : List ℕ → Type 0) (later : mid.faults ≤ new.note_faults) where
+  abbrev action : Meaning
+  action = meaning plan
+
+  abbrev noted : List ℕ → List ℕ
+  noted = noted_by plan
+
   abbrev m : TaskMeaning
   m = task_of action noted (notes now)
 
   abbrev Ran : Status → Type 0
-  Ran status = HasRun (task_of action noted (notes plan)) limit old new status
+  Ran status = HasRun (task_of (meaning asked) (noted_by asked) (notes asked)) limit old new status
 
   abbrev Served : Outcome → Type 0
   Served outcome =
@@ -88,7 +94,8 @@ module _ {Plan : Type 0} (notes : Plan → TaskNotes) (plan now : Plan) (same : 
   ran : (outcome : Outcome) (s : Served outcome) (by : Status) (note : List ℕ) → Adds note →
       WritesBy m limit new.left by s.bytes s.out (noted s.fed ++ note) → Ran by
   ran outcome s by note adds w =
-      subst (λ p. HasRun (task_of action noted (notes p)) limit old new by) same (record {
+      subst (λ p. HasRun (task_of (meaning p) (noted_by p) (notes p)) limit old new by) equal
+      (subst (λ p. HasRun (task_of action noted (notes p)) limit old new by) same (record {
         bytes = s.bytes;
         out = s.out;
         note = noted s.fed ++ note;
@@ -97,7 +104,7 @@ module _ {Plan : Type 0} (notes : Plan → TaskNotes) (plan now : Plan) (same : 
         noted = notes_more (notes_of old) mid (notes_of new) (noted s.fed) note s.holds.gained s.holds.later adds later;
         at_most = s.at_most;
         writes = w;
-      })
+      }))
 
   -- what is noted, of the bytes that were fed or of those that they are
   said : (f : List ℕ → List ℕ) (fed bytes note : List ℕ) → fed ≡ bytes → note ≡ f fed →
@@ -162,17 +169,10 @@ module _ {Plan : Type 0} (notes : Plan → TaskNotes) (plan now : Plan) (same : 
         (writes_over fault m limit new.left s.bytes s.out recent (noted s.fed) exact (says s.bytes)
         (ap noted s.feeds) s.outcome))
 
--- a run by equal plans, choices and tasks
-module _ {P : Type 0} (meaning : P → TaskMeaning) (limit : ℕ) (old new : Streams) (status : Status) where
-  pub same_plan : (p q : P) → p ≡ q → HasRun (meaning p) limit old new status → HasRun (meaning q) limit old new status
-  same_plan p q same run = subst (λ v. HasRun (meaning v) limit old new status) same run
-
-module _ {C P : Type 0} (meaning : C → P → TaskMeaning) (limit : ℕ) (old new : Streams) (status : Status) where
-  pub same_run : (a b : C) (p q : P) → a ≡ b → p ≡ q → HasRun (meaning b p) limit old new status →
-      HasRun (meaning a q) limit old new status
-  same_run a b p q is same run =
-      same_plan (meaning a) limit old new status p q same
-      (subst (λ v. HasRun (meaning v p) limit old new status) (sym is) run)
+-- a run by an equal choice, and by an equal task
+pub same_choice : {C : Type 0} (meaning : C → TaskMeaning) (limit : ℕ) (old new : Streams) (status : Status) (a b : C) →
+    a ≡ b → HasRun (meaning b) limit old new status → HasRun (meaning a) limit old new status
+same_choice meaning limit old new status a b is run = subst (λ c. HasRun (meaning c) limit old new status) (sym is) run
 
 pub same_task : (t u : Task) (limit : ℕ) (old new : Streams) (status : Status) → t ≡ u →
     HasDone u limit old new status → HasDone t limit old new status

@@ -35,6 +35,9 @@ use Rattle.recovery_listing.specs.declared.going_on.GoingOn.{GoingOn}
 use Rattle.source_events.specs.declared.plan.Plan.{Plan}
 use Rattle.script_rebuild.specs.Rebuilt.{routed_script, rebuild_meaning}
 use Rattle.script_rebuild.specs.declared.plan.RebuildPlan.{RebuildPlan}
+use Rattle.trace_stream.specs.BuffersState.{BuffersState}
+use Rattle.trace_stream.specs.Debt.{Debt}
+use Rattle.trace_stream.specs.Fresh.{IsFresh}
 use Rattle.trace_stream.specs.Served.{Meaning}
 use Rattle.value_dump.specs.Vcd.{vcd_meaning}
 use Rattle.value_dump.specs.declared.vcd_plan.VcdPlan.{VcdPlan}
@@ -193,6 +196,12 @@ limit_of task limit = limit
 abbrev pub HasDone : Task → ℕ → Streams → Streams → Status → Type 0
 HasDone (Exercise items lose) limit old new status = HasMade (exercise_summary items lose) old new status
 HasDone task limit old new status = HasRun (meaning_of task) (limit_of task limit) old new status
+
+-- an action that may be served over empty buffers
+abbrev pub IsNew : Type 0 → (List ℕ → Type 0) → ℕ → Debt → List ℕ → Type 0
+IsNew alive stands taken debt noted_first =
+    (buffers : BuffersState) → buffers.pending ≡ [] → buffers.recent ≡ [] →
+    IsFresh alive stands taken debt noted_first buffers
 
 -- these bytes, as all of the input, have no fault
 pub record IsSoundInput (task : Task) (bytes : List ℕ) : Type 0 where

@@ -2,6 +2,8 @@
 use Rattle.std.specs.Prelude.{◌≡◌, ◌⊎◌, ℕ, ◌+◌, ◌≤◌, List, [], ◌++◌, length, take, codes, Bool, true, false, Some}
 use Rattle.std.specs.declared.option.Option.{Option}
 use Rattle.std.specs.Io.KnownBytes.{Appends, Consumes, IsAtEnd, Keeps}
+use Rattle.trace_io.specs.Causes.{Rose}
+use Rattle.trace_stream.specs.Pumped.{Counts}
 use Rattle.trace_stream.specs.Served.{Meaning, ServedBy}
 use Rattle.trace_stream.specs.Written.{GrowsOnly}
 use Rattle.trace_stream.specs.declared.outcome.Outcome.TheVariants.{AtEnd, FaultFound, ReadFailed, WriteFailed}
@@ -118,6 +120,13 @@ pub record HasRun (meaning : TaskMeaning) (limit : ℕ) (old new : Streams) (sta
   pub noted : Notes old.noted new.noted old.note_faults new.note_faults note
   pub at_most : length bytes ≤ limit + 1
   pub writes : WritesBy meaning limit new.left status bytes out note
+
+-- at most one read gave no byte, and a run ends by a failed read or write only where a count of faults rose or is at its
+-- last value
+pub record IsCaused (old new : Counts) (status : Status) : Type 0 where
+  pub one_empty_read : new.empty_reads ≤ old.empty_reads + 1
+  pub read_cause : status ≡ ReadFault → Rose old.read_faults new.read_faults
+  pub write_cause : status ≡ WriteFault → Rose old.write_faults new.write_faults
 
 -- The same of a task that reads nothing and writes this text.
 abbrev pub MakesBy : List ℕ → Status → List ℕ → List ℕ → Type 0

@@ -4,6 +4,8 @@ ghost use Rattle.std.specs.Prelude.{◌≡◌, ◌⊎◌, ℕ, List, None, optio
 ghost use Rattle.source_events.specs.Report.{of_source, stop_of};
 ghost use Rattle.trace_text.specs.FaultText.{told};
 ghost use Rattle.trace_stream.specs.Recent.{last_sixteen};
+ghost use Rattle.capture_run.specs.Actions.{captured, last_note, split_note, report_note, recovered_notes};
+ghost use Rattle.capture_run.specs.Actions.{rebuild_notes, realign_notes, ring_notes, unring_notes};
 ghost use Rattle.capture_run.specs.Notes.{text_of, done_text, status_of, is_image};
 ghost use Rattle.capture_run.specs.Run.{TaskNotes};
 
@@ -121,8 +123,6 @@ pub trait CommandAction: Action {
 }
 
 impl CommandAction for Show {
-    ghost use Rattle.capture_run.specs.Actions.{captured, last_note};
-
     ghost notes = { λ _. captured last_note };
 
     fn ending(&self) -> Ending {
@@ -144,8 +144,6 @@ fn port_stop(fault: Option<Fault>) -> Option<Stop>
 }
 
 impl CommandAction for Split {
-    ghost use Rattle.capture_run.specs.Actions.{captured, split_note};
-
     ghost notes = { λ plan. captured (split_note plan) };
 
     fn ending(&self) -> Ending {
@@ -154,8 +152,6 @@ impl CommandAction for Split {
 }
 
 impl CommandAction for PortText {
-    ghost use Rattle.capture_run.specs.Actions.{captured, report_note};
-
     ghost notes = { λ p. captured (report_note p.plan) };
 
     fn ending(&self) -> Ending {
@@ -164,8 +160,6 @@ impl CommandAction for PortText {
 }
 
 impl CommandAction for Vcd {
-    ghost use Rattle.capture_run.specs.Actions.{captured, report_note};
-
     ghost notes = { λ p. captured (report_note p.plan) };
 
     fn ending(&self) -> Ending {
@@ -174,8 +168,6 @@ impl CommandAction for Vcd {
 }
 
 impl CommandAction for Check {
-    ghost use Rattle.capture_run.specs.Actions.{captured, last_note};
-
     ghost notes = { λ _. captured last_note };
 
     fn ending(&self) -> Ending {
@@ -184,8 +176,6 @@ impl CommandAction for Check {
 }
 
 impl CommandAction for KindCheck {
-    ghost use Rattle.capture_run.specs.Actions.{captured, last_note};
-
     ghost notes = { λ _. captured last_note };
 
     fn ending(&self) -> Ending {
@@ -195,8 +185,6 @@ impl CommandAction for KindCheck {
 
 /// No fault ends the reading, and the lines of all are written, or were noted as the bytes came.
 impl<A: Account> CommandAction for Recovering<A> {
-    ghost use Rattle.capture_run.specs.Actions.{recovered_notes};
-
     ghost notes = { λ asked. recovered_notes (A.capture asked) };
 
     fn ending(&self) -> Ending {
@@ -205,8 +193,6 @@ impl<A: Account> CommandAction for Recovering<A> {
 }
 
 impl CommandAction for Rebuild {
-    ghost use Rattle.capture_run.specs.Actions.{rebuild_notes};
-
     ghost notes = { rebuild_notes };
 
     fn ending(&self) -> Ending {
@@ -220,8 +206,6 @@ impl CommandAction for Rebuild {
 }
 
 impl CommandAction for Realign {
-    ghost use Rattle.capture_run.specs.Actions.{realign_notes};
-
     ghost notes = { λ _. realign_notes };
 
     fn ending(&self) -> Ending {
@@ -234,8 +218,6 @@ impl CommandAction for Realign {
 }
 
 impl CommandAction for Ring {
-    ghost use Rattle.capture_run.specs.Actions.{ring_notes};
-
     ghost notes = { ring_notes };
 
     fn ending(&self) -> Ending {
@@ -253,8 +235,6 @@ impl CommandAction for Ring {
 }
 
 impl CommandAction for Unring {
-    ghost use Rattle.capture_run.specs.Actions.{unring_notes};
-
     ghost notes = { unring_notes };
 
     fn ending(&self) -> Ending {

@@ -24,6 +24,7 @@ mod exercise;
 mod jobs;
 pub mod laws;
 mod notes;
+mod reading;
 mod status;
 
 use capture_words::{Asked, read_words};

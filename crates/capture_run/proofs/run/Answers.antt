@@ -24,7 +24,7 @@ returns-in-Do-clause-complete g c = λ job bytes asks loses no_read no_write wit
     complete mine.task mine.limit _ _ c.run_job.result c.run_job.ensures.ran bytes loses
     (subst (λ (j : Job). length bytes ≤ limit_of j.task j.limit) same within)
     (subst (λ (j : Job). IsSoundInput j.task bytes) same sound)
-    (λ e. no_read (c.run_job.ensures.read_cause e)) (λ e. no_write (c.run_job.ensures.write_cause e))
+    (λ e. no_read (c.run_job.ensures.caused.read_cause e)) (λ e. no_write (c.run_job.ensures.caused.write_cause e))
 
 pub returns-in-Do-clause-goes_on : goal.returns-in-Do-clause-goes_on
 returns-in-Do-clause-goes_on g c = λ job bytes asks on loses no_read no_write within.
@@ -32,7 +32,7 @@ returns-in-Do-clause-goes_on g c = λ job bytes asks on loses no_read no_write w
     let same = same_job _ job mine _ asks c.read_words.ensures.asked c.in-Do.is in
     goes_on mine.task mine.limit _ _ c.run_job.result c.run_job.ensures.ran bytes
     (subst (λ (j : Job). GoesOn j.task) same on) loses (subst (λ (j : Job). length bytes ≤ j.limit) same within)
-    (λ e. no_read (c.run_job.ensures.read_cause e)) (λ e. no_write (c.run_job.ensures.write_cause e))
+    (λ e. no_read (c.run_job.ensures.caused.read_cause e)) (λ e. no_write (c.run_job.ensures.caused.write_cause e))
 
 pub returns-in-Do-clause-fronts : goal.returns-in-Do-clause-fronts
 returns-in-Do-clause-fronts g c = λ job whole lost bytes asks lists loses sound done.
