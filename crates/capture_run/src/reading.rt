@@ -67,21 +67,12 @@ impl Reading for ListPlan {
         output: &mut O,
         notes: &mut N,
     ) -> Status {
+        let plan = self;
         match recover.guesses() {
-            None => run_action(buffers, Ok(Show::new(self)), limit, input, output, notes),
+            None => run_action(buffers, Ok(Show::new(plan)), limit, input, output, notes),
             Some(guesses) => {
-                let plan = GoingOn {
-                    plan: self,
-                    guesses,
-                };
-                run_action(
-                    buffers,
-                    Ok(RecoveringShow::new(plan)),
-                    limit,
-                    input,
-                    output,
-                    notes,
-                )
+                let opened = Ok(RecoveringShow::new(GoingOn { plan, guesses }));
+                run_action(buffers, opened, limit, input, output, notes)
             }
         }
     }
@@ -103,28 +94,19 @@ impl Reading for PortTextPlan {
         output: &mut O,
         notes: &mut N,
     ) -> Status {
+        let plan = self;
         match recover.guesses() {
             None => run_action(
                 buffers,
-                Ok(PortText::new(self)),
+                Ok(PortText::new(plan)),
                 limit,
                 input,
                 output,
                 notes,
             ),
             Some(guesses) => {
-                let plan = GoingOn {
-                    plan: self,
-                    guesses,
-                };
-                run_action(
-                    buffers,
-                    RecoveringText::open(alloc, plan),
-                    limit,
-                    input,
-                    output,
-                    notes,
-                )
+                let opened = RecoveringText::open(alloc, GoingOn { plan, guesses });
+                run_action(buffers, opened, limit, input, output, notes)
             }
         }
     }
@@ -146,21 +128,12 @@ impl Reading for VcdPlan {
         output: &mut O,
         notes: &mut N,
     ) -> Status {
+        let plan = self;
         match recover.guesses() {
-            None => run_action(buffers, Ok(Vcd::new(self)), limit, input, output, notes),
+            None => run_action(buffers, Ok(Vcd::new(plan)), limit, input, output, notes),
             Some(guesses) => {
-                let plan = GoingOn {
-                    plan: self,
-                    guesses,
-                };
-                run_action(
-                    buffers,
-                    RecoveringVcd::open(alloc, plan),
-                    limit,
-                    input,
-                    output,
-                    notes,
-                )
+                let opened = RecoveringVcd::open(alloc, GoingOn { plan, guesses });
+                run_action(buffers, opened, limit, input, output, notes)
             }
         }
     }
@@ -191,17 +164,12 @@ impl Reading for CheckPlan {
         let CheckPlan { plan, kinds } = self;
         match (recover.guesses(), kinds) {
             (None, false) => {
-                run_action(buffers, Ok(Check::new(plan)), limit, input, output, notes)
+                let opened = Ok(Check::new(plan));
+                run_action(buffers, opened, limit, input, output, notes)
             }
             (None, true) => {
-                run_action(
-                    buffers,
-                    Ok(KindCheck::new(plan)),
-                    limit,
-                    input,
-                    output,
-                    notes,
-                )
+                let opened = Ok(KindCheck::new(plan));
+                run_action(buffers, opened, limit, input, output, notes)
             }
             (Some(_), false) => {
                 let opened = Ok(RecoveringCheck::new(plan));

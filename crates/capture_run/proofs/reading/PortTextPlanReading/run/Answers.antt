@@ -12,4 +12,4 @@ pub returns-in-Some-clause-ran : goal.returns-in-Some-clause-ran
 returns-in-Some-clause-ran g c =
     same_choice (λ o. texting o c.args.self) c.args.limit _ _ _ _ (Some c.in-Some.guesses)
     (sym c.guesses.ensures ∙ c.in-Some.is)
-    (c.run_action-in-Some.ensures.ran (going_on c.args.self c.in-Some.guesses) c.open.ensures.plan)
+    (c.run_action-in-Some.ensures.ran (going_on c.args.self c.in-Some.guesses) c.open-opened.ensures.plan)
