@@ -1,5 +1,5 @@
 -- What a run of `show` wrote follows the whole capture, whose front may be lost.
-use Rattle.std.proofs.Common.{◌≡◌, ℕ, List, ◌++◌, ap, sym, ◌∙◌, subst, None}
+use Rattle.std.proofs.Common.{◌≡◌, ℕ, List, ◌++◌, ap, ◌∙◌, subst, None}
 use Rattle.capture_actions.specs.Listing.{listing, listed, ending_by}
 use Rattle.capture_actions.specs.declared.list_plan.ListPlan.{ListPlan}
 use Rattle.capture_words.proofs.Calls.{one_job}

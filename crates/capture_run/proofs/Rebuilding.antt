@@ -14,7 +14,7 @@ use Rattle.source_events.specs.Plan.{is_sound}
 use Rattle.capture_words.specs.Jobs.{IsSoundTask}
 use Rattle.capture_words.specs.declared.job.Task.{Task}
 use Rattle.capture_words.specs.declared.job.Task.TheVariants.{Rebuild, Funnel}
-use Rattle.capture_run.specs.Actions.{meaning_of, rebuilding, HasDone}
+use Rattle.capture_run.specs.Actions.{rebuilding, HasDone}
 use Rattle.capture_run.specs.Rebuilds.{Rebuilds, Writes, straight, funnelled}
 use Rattle.capture_run.specs.Run.{HasRun, Streams, Loses}
 use Rattle.capture_run.specs.declared.status.Status.{Status}

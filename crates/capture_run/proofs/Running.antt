@@ -1,7 +1,7 @@
 -- How a run ends, by the outcome of the serving of its input.
-use Rattle.std.proofs.Common.{◌≡◌, ℕ, ◌≤◌, List, [], Some, None, refl, sym, ap, ◌∙◌, subst, inl, inr, length, take}
-use Rattle.std.proofs.Common.{◌++◌, arith, Bool, true, false}
-use Rattle.std.proofs.lemmas.List.{append_cancel_right, take_all}
+use Rattle.std.proofs.Common.{◌≡◌, ℕ, ◌≤◌, List, [], Some, None, refl, sym, ap, ◌∙◌, subst, inl, inr, take}
+use Rattle.std.proofs.Common.{◌++◌, arith, true, false}
+use Rattle.std.proofs.lemmas.List.{append_cancel_right}
 use Rattle.std.specs.declared.option.Option.{Option}
 use Rattle.std.specs.Prelude.{codes}
 use Rattle.std.specs.Io.KnownBytes.{Consumes, Keeps}

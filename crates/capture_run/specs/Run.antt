@@ -121,8 +121,8 @@ pub record HasRun (meaning : TaskMeaning) (limit : ℕ) (old new : Streams) (sta
   pub at_most : length bytes ≤ limit + 1
   pub writes : WritesBy meaning limit new.left status bytes out note
 
--- at most one read gave no byte, and a run ends by a failed read or write only where a count of faults rose or is at its
--- last value
+-- at most one read gave no byte, and a run ends by a failed read or write only where a count of faults rose or is at
+-- its last value
 pub record IsCaused (old new : Counts) (status : Status) : Type 0 where
   pub one_empty_read : new.empty_reads ≤ old.empty_reads + 1
   pub read_cause : status ≡ ReadFault → Rose old.read_faults new.read_faults

@@ -43,9 +43,10 @@ pub trait Reading {
         requires empty { (buffers.old.pending ≡ []) × (buffers.old.recent ≡ []) }
         requires fit { fit self }
         requires small { limit ≤ GREATEST_CAPTURE }
-        ensures ran { let before = streams (I.left input.old) (O.held output.old) (N.held notes.old) (N.faults notes.old) in
+        ensures ran { let m = meaning (guesses_of recover) self in
+            let before = streams (I.left input.old) (O.held output.old) (N.held notes.old) (N.faults notes.old) in
             let after = streams (I.left input.new) (O.held output.new) (N.held notes.new) (N.faults notes.new) in
-            HasRun (meaning (guesses_of recover) self) limit before after result }
+            HasRun m limit before after result }
         ensures caused { let before = counts (I.empty_reads input.old) (I.faults input.old) (O.faults output.old) in
             let after = counts (I.empty_reads input.new) (I.faults input.new) (O.faults output.new) in
             IsCaused before after result };

@@ -1,11 +1,10 @@
 use Rattle.std.proofs.Common.{◌≤◌, length, subst}
 use Rattle.capture_words.specs.declared.job.Job.{Job}
-use Rattle.capture_run.specs.Actions.{HasDone, IsSoundInput, limit_of}
+use Rattle.capture_run.specs.Actions.{IsSoundInput, limit_of}
 use Rattle.capture_run.specs.Fronts.{ListsRest}
 use Rattle.capture_run.specs.Rebuilds.{Writes}
 use Rattle.capture_run.specs.Recovers.{GoesOn}
 use Rattle.capture_run.specs.Run.{Streams, streams}
-use Rattle.capture_run.specs.declared.status.Status.{Status}
 use Rattle.capture_run.proofs.Completing.{complete, goes_on, noted}
 use Rattle.capture_run.proofs.Fronts.{same_job, follows_whole}
 use Rattle.capture_run.proofs.Rebuilding.{rebuilds_script}

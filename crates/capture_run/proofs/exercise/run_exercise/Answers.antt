@@ -1,4 +1,4 @@
-use Rattle.std.proofs.Common.{arith, refl, []}
+use Rattle.std.proofs.Common.{arith, []}
 use Rattle.trace_stream.specs.Told.{told}
 use Rattle.trace_stream.proofs.Telling.{notes_more}
 use Rattle.trace_stream.specs.declared.limits.TheConstants.{GREATEST_CAPTURE}

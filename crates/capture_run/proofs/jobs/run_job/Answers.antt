@@ -2,7 +2,6 @@ use Rattle.std.proofs.Common.{sym, subst}
 use Rattle.capture_words.specs.declared.job.Task.TheVariants.{Check, Show, Text, Vcd}
 use Rattle.capture_run.specs.Actions.{HasDone}
 use Rattle.capture_run.specs.Run.{Streams, streams}
-use Rattle.capture_run.specs.declared.status.Status.{Status}
 use Rattle.capture_run.proofs.Running.{done_unopened, same_task}
 use Rattle.capture_run.proofs.jobs.run_job.Goals as goal
 
