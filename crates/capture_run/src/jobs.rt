@@ -93,28 +93,26 @@ fn script_plan(plan: Plan, sync: u32, half: u8, funnel: Option<Turns>) -> Rebuil
     }
 }
 
-/// Does the job. All memory is taken before anything is read.
-pub fn run_job<I: Source, O: Sink, N: Sink>(
+/// Does the task by these buffers.
+fn run_task<I: Source, O: Sink, N: Sink>(
     alloc: Global,
-    job: Job,
+    buffers: &mut Buffers,
+    task: Task,
+    limit: u64,
     input: &mut I,
     output: &mut O,
     notes: &mut N,
 ) -> Status
-    requires small { job.limit ≤ GREATEST_CAPTURE }
-    requires sound { IsSoundTask job.task }
+    requires empty { (buffers.old.pending ≡ []) × (buffers.old.recent ≡ []) }
+    requires small { limit ≤ GREATEST_CAPTURE }
+    requires sound { IsSoundTask task }
     ensures ran { let before = streams (I.left input.old) (O.held output.old) (N.held notes.old) (N.faults notes.old) in
         let after = streams (I.left input.new) (O.held output.new) (N.held notes.new) (N.faults notes.new) in
-        HasDone job.task job.limit before after result }
+        HasDone task limit before after result }
     ensures caused { let before = counts (I.empty_reads input.old) (I.faults input.old) (O.faults output.old) in
         let after = counts (I.empty_reads input.new) (I.faults input.new) (O.faults output.new) in
         IsCaused before after result }
 {
-    let Ok(mut buffers) = Buffers::open(alloc) else {
-        return note_no_memory(notes);
-    };
-    let Job { task, limit } = job;
-    let buffers = &mut buffers;
     match task {
         Task::Show {
             plan,
@@ -177,4 +175,35 @@ pub fn run_job<I: Source, O: Sink, N: Sink>(
         }
         Task::Exercise { items, lose } => run_exercise(buffers, items, lose, output, notes),
     }
+}
+
+/// Does the job. All memory is taken before anything is read.
+pub fn run_job<I: Source, O: Sink, N: Sink>(
+    alloc: Global,
+    job: Job,
+    input: &mut I,
+    output: &mut O,
+    notes: &mut N,
+) -> Status
+    requires small { job.limit ≤ GREATEST_CAPTURE }
+    requires sound { IsSoundTask job.task }
+    ensures ran { let before = streams (I.left input.old) (O.held output.old) (N.held notes.old) (N.faults notes.old) in
+        let after = streams (I.left input.new) (O.held output.new) (N.held notes.new) (N.faults notes.new) in
+        HasDone job.task job.limit before after result }
+    ensures caused { let before = counts (I.empty_reads input.old) (I.faults input.old) (O.faults output.old) in
+        let after = counts (I.empty_reads input.new) (I.faults input.new) (O.faults output.new) in
+        IsCaused before after result }
+{
+    let Ok(mut buffers) = Buffers::open(alloc) else {
+        return note_no_memory(notes);
+    };
+    run_task(
+        alloc,
+        &mut buffers,
+        job.task,
+        job.limit,
+        input,
+        output,
+        notes,
+    )
 }

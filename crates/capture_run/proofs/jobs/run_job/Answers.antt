@@ -1,29 +1,8 @@
 use Rattle.std.proofs.Common.{sym, subst}
-use Rattle.capture_words.specs.declared.job.Task.TheVariants.{Check, Show, Text, Vcd}
 use Rattle.capture_run.specs.Actions.{HasDone}
 use Rattle.capture_run.specs.Run.{Streams, streams}
-use Rattle.capture_run.proofs.Running.{done_unopened, same_task}
+use Rattle.capture_run.proofs.Running.{done_unopened}
 use Rattle.capture_run.proofs.jobs.run_job.Goals as goal
-
-pub returns-in-Show-clause-ran : goal.returns-in-Show-clause-ran
-returns-in-Show-clause-ran g c =
-    let t = c.in-Show in
-    same_task c.args.job.task (Show t.plan t.only t.window t.recover) c.args.job.limit _ _ _ t.is c.run.ensures.ran
-
-pub returns-in-Text-clause-ran : goal.returns-in-Text-clause-ran
-returns-in-Text-clause-ran g c =
-    let t = c.in-Text in
-    same_task c.args.job.task (Text t.plan t.port t.recover) c.args.job.limit _ _ _ t.is c.run-in-Text.ensures.ran
-
-pub returns-in-Vcd-clause-ran : goal.returns-in-Vcd-clause-ran
-returns-in-Vcd-clause-ran g c =
-    let t = c.in-Vcd in
-    same_task c.args.job.task (Vcd t.plan t.hz t.recover) c.args.job.limit _ _ _ t.is c.run-in-Vcd.ensures.ran
-
-pub returns-in-Check-clause-ran : goal.returns-in-Check-clause-ran
-returns-in-Check-clause-ran g c =
-    let t = c.in-Check in
-    same_task c.args.job.task (Check t.plan t.recover t.kinds) c.args.job.limit _ _ _ t.is c.run-in-Check.ensures.ran
 
 pub returns-in_default-clause-ran : goal.returns-in_default-clause-ran
 returns-in_default-clause-ran g c =
