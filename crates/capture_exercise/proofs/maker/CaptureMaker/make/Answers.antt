@@ -35,7 +35,7 @@ returns-then-self-clause-bytes c =
     subst (λ (out : List ℕ). cond self.is_whole [] (later self.items self.next) ≡ out ++ []) (sym made)
     (last_made self.is_whole (self.items - self.next + 1) (later self.items self.next) f.adds.more c.requires.more
     (rest_bytes self.items self.next (order_of cleared.new.self) (stp_of cleared.new.self) f.adds.more c.if-self.true
-    (cleared.ensures.order ∙ self.order) (cleared.ensures.stp ∙ self.stp) f.all)))
+    (cleared.ensures.sources.order ∙ self.order) (cleared.ensures.sources.stp ∙ self.stp) f.all)))
 
 pub returns-else-self-clause-bytes : goal.returns-else-self-clause-bytes
 returns-else-self-clause-bytes c =
@@ -55,4 +55,4 @@ returns-else-self-clause-bytes c =
     (line_made self.is_whole (self.items - self.next + 1) (later self.items self.next) (later self.items (self.next + 1)) adds.more
     c.requires.more
     (line_bytes self.items self.next (order_of cleared.new.self) (stp_of cleared.new.self) line adds.more below
-    (cleared.ensures.order ∙ self.order) (cleared.ensures.stp ∙ self.stp) c.line_at-line.ensures.value adds.grown)))
+    (cleared.ensures.sources.order ∙ self.order) (cleared.ensures.sources.stp ∙ self.stp) c.line_at-line.ensures.value adds.grown)))
