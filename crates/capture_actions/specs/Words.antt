@@ -21,59 +21,38 @@ use Rattle.capture_actions.specs.declared.item_word.ItemWord.TheVariants.{Asleep
 use Rattle.capture_actions.specs.declared.item_word.ItemWord.TheVariants.{Async, Version, Data, Flag, Trig, Freq}
 use Rattle.capture_actions.specs.declared.item_word.ItemWord.TheVariants.{Nullts, Merr, Gerr, Raw, Trigger}
 
--- its text
-abbrev pub text_of : ItemWord → List ℕ
-text_of Sync = codes "sync"
-text_of Overflow = codes "overflow"
-text_of Port = codes "port"
-text_of Counters = codes "counters"
-text_of Exception = codes "exception"
-text_of Pc = codes "pc"
-text_of Asleep = codes "asleep"
-text_of Cmp = codes "cmp"
-text_of Hw = codes "hw"
-text_of Local = codes "local"
-text_of Global1 = codes "global1"
-text_of Global2 = codes "global2"
-text_of Ext = codes "ext"
-text_of Async = codes "async"
-text_of Version = codes "version"
-text_of Data = codes "data"
-text_of Flag = codes "flag"
-text_of Trig = codes "trig"
-text_of Freq = codes "freq"
-text_of Nullts = codes "nullts"
-text_of Merr = codes "merr"
-text_of Gerr = codes "gerr"
-text_of Raw = codes "raw"
-text_of Trigger = codes "trigger"
+-- its place in the order, from 0 on, and its text
+abbrev pub row_of : ItemWord → ℕ × List ℕ
+row_of Sync = (0, codes "sync")
+row_of Overflow = (1, codes "overflow")
+row_of Port = (2, codes "port")
+row_of Counters = (3, codes "counters")
+row_of Exception = (4, codes "exception")
+row_of Pc = (5, codes "pc")
+row_of Asleep = (6, codes "asleep")
+row_of Cmp = (7, codes "cmp")
+row_of Hw = (8, codes "hw")
+row_of Local = (9, codes "local")
+row_of Global1 = (10, codes "global1")
+row_of Global2 = (11, codes "global2")
+row_of Ext = (12, codes "ext")
+row_of Async = (13, codes "async")
+row_of Version = (14, codes "version")
+row_of Data = (15, codes "data")
+row_of Flag = (16, codes "flag")
+row_of Trig = (17, codes "trig")
+row_of Freq = (18, codes "freq")
+row_of Nullts = (19, codes "nullts")
+row_of Merr = (20, codes "merr")
+row_of Gerr = (21, codes "gerr")
+row_of Raw = (22, codes "raw")
+row_of Trigger = (23, codes "trigger")
 
--- its place in the order, from 0 on
 abbrev pub number_of : ItemWord → ℕ
-number_of Sync = 0
-number_of Overflow = 1
-number_of Port = 2
-number_of Counters = 3
-number_of Exception = 4
-number_of Pc = 5
-number_of Asleep = 6
-number_of Cmp = 7
-number_of Hw = 8
-number_of Local = 9
-number_of Global1 = 10
-number_of Global2 = 11
-number_of Ext = 12
-number_of Async = 13
-number_of Version = 14
-number_of Data = 15
-number_of Flag = 16
-number_of Trig = 17
-number_of Freq = 18
-number_of Nullts = 19
-number_of Merr = 20
-number_of Gerr = 21
-number_of Raw = 22
-number_of Trigger = 23
+number_of word = (row_of word).0
+
+abbrev pub text_of : ItemWord → List ℕ
+text_of word = (row_of word).1
 
 -- the word of what a hardware packet means
 abbrev pub dwt_word : DwtItem → ItemWord

@@ -8,25 +8,25 @@ ghost use Rattle.capture_run.specs.Statuses.{number_of};
 #[derive(Clone, Copy, Debug, PartialEq, Eq, Drop)]
 pub enum Status {
     /// All of the input was read, and its whole text was written; or the task reads nothing, and its text was written.
-    Done,
+    Done = 0,
     /// The words are no call. Nothing was read.
-    Usage,
+    Usage = 2,
     /// The reading of the bytes within the limit has a fault.
-    CaptureFault,
+    CaptureFault = 3,
     /// A read failed.
-    ReadFault,
+    ReadFault = 4,
     /// A write failed.
-    WriteFault,
+    WriteFault = 5,
     /// There was no memory to begin with. Nothing was read or written.
-    NoMemory,
+    NoMemory = 6,
     /// A line of the script has a fault.
-    ScriptFault,
+    ScriptFault = 7,
     /// The input has more bytes than the limit.
-    Limit,
+    Limit = 8,
     /// All of the input was read, and its whole text was written, which tells the faults that the capture has.
-    Recovered,
+    Recovered = 9,
     /// The input is no image: it has fewer or more bytes than the trace buffer.
-    BadImage,
+    BadImage = 10,
 }
 
 impl Status {
@@ -34,17 +34,6 @@ impl Status {
     pub fn number(&self) -> u8
         ensures { result ≡ number_of self.now }
     {
-        match self {
-            Status::Done => 0,
-            Status::Usage => 2,
-            Status::CaptureFault => 3,
-            Status::ReadFault => 4,
-            Status::WriteFault => 5,
-            Status::NoMemory => 6,
-            Status::ScriptFault => 7,
-            Status::Limit => 8,
-            Status::Recovered => 9,
-            Status::BadImage => 10,
-        }
+        *self as u8
     }
 }

@@ -7,23 +7,23 @@ ghost use Rattle.trace_values.specs.Faults.{number_of, name_of};
 #[derive(Clone, Copy, Debug, PartialEq, Eq, Drop)]
 pub enum Reason {
     /// At the port, the bytes are not those of a synchronisation.
-    BadSync,
+    BadSync = 1,
     /// At the port, a synchronisation is inside a frame.
-    SyncInFrame,
+    SyncInFrame = 2,
     /// No packet has this header.
-    ReservedHeader,
+    ReservedHeader = 3,
     /// A run of zero bytes that is no ITM synchronisation packet: too short, or ended by another byte than 80.
-    BadItmSync,
+    BadItmSync = 4,
     /// A timestamp goes on after the last byte that it may have.
-    LongStamp,
+    LongStamp = 5,
     /// A timestamp ends before it has as many bytes as it must have.
-    ShortStamp,
+    ShortStamp = 6,
     /// No STP packet has this opcode.
-    Unsupported,
+    Unsupported = 7,
     /// No STP timestamp has this size.
-    StampSize,
+    StampSize = 8,
     /// A run of nibbles F that is no STP synchronisation packet: too short, or ended by another nibble than 0.
-    BadAsync,
+    BadAsync = 9,
 }
 
 impl Reason {
@@ -31,17 +31,7 @@ impl Reason {
     pub fn number(&self) -> u8
         ensures { result ≡ number_of self.now }
     {
-        match self {
-            Reason::BadSync => 1,
-            Reason::SyncInFrame => 2,
-            Reason::ReservedHeader => 3,
-            Reason::BadItmSync => 4,
-            Reason::LongStamp => 5,
-            Reason::ShortStamp => 6,
-            Reason::Unsupported => 7,
-            Reason::StampSize => 8,
-            Reason::BadAsync => 9,
-        }
+        *self as u8
     }
 
     /// The reason's name, as a fault line has it.
