@@ -19,17 +19,15 @@ none_unnamed : (id : ℕ) (cells : List Cell) → source_units id (map unnamed c
 none_unnamed id [] = refl
 none_unnamed id (c ∷ cells) = none_unnamed id cells
 
+-- cells without IDs before others change no source's units
+same_units : (hidden named rest : List Cell) → rest ≡ map unnamed hidden ++ named → (id : ℕ) → source_units id rest ≡ source_units id named
+same_units hidden named rest e id =
+    ap (source_units id) e ∙ sources.units_append id (map unnamed hidden) named ∙ ap (λ l. l ++ source_units id named) (none_unnamed id hidden)
+
 made : (gone hidden named whole rest : List Cell) → whole ≡ gone ++ (hidden ++ named) → rest ≡ map unnamed hidden ++ named → BeginsNamed named → CellsRest whole rest
-made gone hidden named whole rest e f b = record {
-  gone = gone;
-  hidden = hidden;
-  named = named;
-  whole_is = e;
-  rest_is = f;
-  begins = b;
-  sources = λ id.
-      ap (source_units id) f ∙ sources.units_append id (map unnamed hidden) named ∙ ap (λ l. l ++ source_units id named) (none_unnamed id hidden);
-}
+made gone hidden named whole rest e f b =
+    let same = same_units hidden named rest f in
+    record { gone = gone; hidden = hidden; named = named; whole_is = e; rest_is = f; begins = b; sources = same }
 
 framed_rest : (h : Bool) (lost rest : List Placed) → (port_stream h (lost ++ rest)).fault ≡ None → CellsRest (cells_in (port_stream h (lost ++ rest))) (cells_in (port_stream true rest))
 framed_rest h lost rest e = elim (framed.is_rest h lost rest e) [

@@ -9,18 +9,11 @@ use Rattle.source_merge.proofs.Attributed.{unattributed_are}
 use Rattle.source_merge.proofs.Refilled.{ready_as}
 use Rattle.source_merge.proofs.engine.Engine.finish.Goals as goal
 
-same_tails : (n bytes : ℕ) (m mode : PortMode) (s skipped t tail a unattributed : ℕ) (l sources : List SourceTail) →
-    n ≡ bytes → m ≡ mode → s ≡ skipped → t ≡ tail → a ≡ unattributed → l ≡ sources →
+same_tails : (n o : ℕ) (m p : PortMode) (s k t r a u : ℕ) (l v : List SourceTail) →
+    n ≡ o → m ≡ p → s ≡ k → t ≡ r → a ≡ u → l ≡ v →
     (let x : Tails = record { bytes = n; mode = m; skipped = s; tail = t; unattributed = a; sources = l } in
-    let y : Tails = record {
-      bytes = bytes;
-      mode = mode;
-      skipped = skipped;
-      tail = tail;
-      unattributed = unattributed;
-      sources = sources;
-    } in x ≡ y)
-same_tails n bytes m mode s skipped t tail a unattributed l sources e f g h i j = cc
+    let y : Tails = record { bytes = o; mode = p; skipped = k; tail = r; unattributed = u; sources = v } in x ≡ y)
+same_tails n o m p s k t r a u l v e f g h i j = cc
 
 pub returns : goal.returns
 returns c = λ u h.
