@@ -1,7 +1,8 @@
 -- What the reading of a capture with all its sources stands for.
-use Rattle.std.specs.Prelude.{◌≡◌, ℕ, List, ◌++◌, Bool, true, option_map}
+use Rattle.std.specs.Prelude.{◌≡◌, ℕ, ◌+◌, List, ◌++◌, Bool, true, false, length, option_map}
 use Rattle.capture_actions.specs.Names.{placed, Plan, Event, Packet, stop_of, report_of, fault_of, FaultAfter}
 use Rattle.source_merge.specs.Engine as engines
+use Rattle.source_merge.specs.Giving.{GivesTo}
 use Rattle.capture_actions.specs.Faulty.{IsFaulty}
 use Rattle.capture_actions.specs.declared.reading.CaptureReading.{CaptureReading}
 
@@ -32,3 +33,11 @@ pub record Grew (old new : CaptureReading) (seen front : List ℕ) (is_faulty : 
 -- of whatever it stands for, with these bytes
 abbrev pub ReadsOn : CaptureReading → CaptureReading → List ℕ → Bool → List (Event Packet) → Type 0
 ReadsOn old new front is_faulty given = (seen : List ℕ) → Stands old seen → Grew old new seen front is_faulty given
+
+-- A reading took these bytes, and gave their events to what takes them. Both are told before and after.
+pub record TakesOn {S : Type 0} (gets : S → List (Event Packet) → S → Type 0) (old new : CaptureReading × S)
+    (front : List ℕ) (is_faulty : Bool) : Type 0 where
+  pub same : plan_of new.0 ≡ plan_of old.0
+  pub count : taken_by new.0 ≡ taken_by old.0 + length front
+  pub reads : GivesTo gets old.1 new.1 (ReadsOn old.0 new.0 front is_faulty)
+  pub live : is_faulty ≡ false → IsLive new.0

@@ -3,6 +3,7 @@ use Rattle.std.specs.Prelude.{ℕ, List, [], ◌++◌, ⊤}
 use Rattle.capture_actions.specs.Names.{Event, Packet}
 use Rattle.capture_actions.specs.declared.check.Ignored.{Ignored}
 use Rattle.capture_actions.specs.declared.kind_counts.TheConstants.{MANY}
+use Rattle.source_merge.specs.Giving.{AddsUp}
 
 abbrev pub gets : Ignored × Unit {0} → List (Event Packet) → Ignored × Unit {0} → Type 0
 gets old es new = ⊤
@@ -10,9 +11,12 @@ gets old es new = ⊤
 abbrev pub room : Ignored × Unit {0} → ℕ
 room s = MANY
 
-pub gets_none : (s : Ignored × Unit {0}) → gets s [] s
+gets_none : (s : Ignored × Unit {0}) → gets s [] s
 gets_none s = tt
 
-pub gets_more : (a b c : Ignored × Unit {0}) (es fs : List (Event Packet)) → gets a es b → gets b fs c →
+gets_more : (a b c : Ignored × Unit {0}) (es fs : List (Event Packet)) → gets a es b → gets b fs c →
     gets a (es ++ fs) c
 gets_more a b c es fs h k = tt
+
+pub adds_up : AddsUp gets
+adds_up = record { none = gets_none; more = gets_more }

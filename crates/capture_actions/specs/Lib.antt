@@ -30,7 +30,6 @@ pub mod Lister
 pub mod ListerLaws
 pub mod CaptureReading
 pub mod Show
-pub mod Feeding
 pub mod Summary
 pub mod CheckLaws
 pub mod Check

@@ -8,8 +8,9 @@ use Rattle.capture_actions.specs.LineLaws.{lines_more}
 use Rattle.capture_actions.specs.Lister.{gets}
 use Rattle.capture_actions.specs.Listing.{lines_from}
 use Rattle.capture_actions.specs.SourceClocks.{AllStand}
+use Rattle.source_merge.specs.Giving.{AddsUp}
 
-pub gets_none : (s : Lister × List ℕ) → gets s [] s
+gets_none : (s : Lister × List ℕ) → gets s [] s
 gets_none s = record {
   kept = refl;
   asked = refl;
@@ -18,7 +19,7 @@ gets_none s = record {
   text = λ clocked seen h f. sym (append-nil s.1);
 }
 
-pub gets_more : (a b c : Lister × List ℕ) (es fs : List (Event Packet)) → gets a es b → gets b fs c →
+gets_more : (a b c : Lister × List ℕ) (es fs : List (Event Packet)) → gets a es b → gets b fs c →
     gets a (es ++ fs) c
 gets_more a b c es fs g h =
     let p = plan_by a.0.plan a.0.filter in
@@ -38,3 +39,6 @@ gets_more a b c es fs g h =
           ∙ append_assoc a.1 (lines_from p clocked seen es) (lines_from p (clocked ++ es) (seen ++ es) fs)
           ∙ ap (λ (l : List ℕ). a.1 ++ l) (sym (lines_more p clocked seen es fs));
     }
+
+pub adds_up : AddsUp gets
+adds_up = record { none = gets_none; more = gets_more }

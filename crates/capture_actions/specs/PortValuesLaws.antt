@@ -5,11 +5,12 @@ use Rattle.capture_actions.specs.declared.port_values.PortValues.{PortValues}
 use Rattle.capture_actions.specs.PortText.{values_in}
 use Rattle.capture_actions.specs.PortTextLaws.{values_append}
 use Rattle.capture_actions.specs.PortValues.{gets}
+use Rattle.source_merge.specs.Giving.{AddsUp}
 
-pub gets_none : (s : PortValues × List ℕ) → gets s [] s
+gets_none : (s : PortValues × List ℕ) → gets s [] s
 gets_none s = (refl, sym (append-nil s.1))
 
-pub gets_more : (a b c : PortValues × List ℕ) (es fs : List (Event Packet)) → gets a es b → gets b fs c →
+gets_more : (a b c : PortValues × List ℕ) (es fs : List (Event Packet)) → gets a es b → gets b fs c →
     gets a (es ++ fs) c
 gets_more a b c es fs g h =
     let values : PortValues → List (Event Packet) → List ℕ = λ p. values_in p.source p.port in (
@@ -19,3 +20,6 @@ gets_more a b c es fs g h =
           ∙ append_assoc a.1 (values a.0 es) (values a.0 fs)
           ∙ ap (λ (l : List ℕ). a.1 ++ l) (sym (values_append a.0.source a.0.port es fs)),
     )
+
+pub adds_up : AddsUp gets
+adds_up = record { none = gets_none; more = gets_more }

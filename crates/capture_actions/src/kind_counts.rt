@@ -83,9 +83,8 @@ impl KindCounts {
 
 /// Of all events only their number is kept.
 impl Receiver for KindCounts {
-    ghost use Rattle.std.specs.Prelude.{⊤};
     ghost use Rattle.capture_actions.specs.KindCounts.{gets, room};
-    ghost use Rattle.capture_actions.specs.KindCountsLaws.{gets_none, gets_more};
+    ghost use Rattle.capture_actions.specs.KindCountsLaws.{adds_up};
 
     type To = ();
 
@@ -93,11 +92,7 @@ impl Receiver for KindCounts {
 
     ghost room = { room };
 
-    ghost takes = { λ counts source kind. ⊤ };
-
-    ghost gets_none = { gets_none };
-
-    ghost gets_more = { gets_more };
+    ghost adds_up = { adds_up };
 
     #[inline(always)]
     fn give(&mut self, _to: &mut (), event: Event<Packet>) {

@@ -70,9 +70,8 @@ impl PortValues {
 
 /// Of all events the values of the port alone go to the outlet.
 impl Receiver for PortValues {
-    ghost use Rattle.std.specs.Prelude.{⊤};
     ghost use Rattle.capture_actions.specs.PortValues.{gets, room};
-    ghost use Rattle.capture_actions.specs.PortValuesLaws.{gets_none, gets_more};
+    ghost use Rattle.capture_actions.specs.PortValuesLaws.{adds_up};
 
     type To = Outlet;
 
@@ -80,11 +79,7 @@ impl Receiver for PortValues {
 
     ghost room = { room };
 
-    ghost takes = { λ values source kind. ⊤ };
-
-    ghost gets_none = { gets_none };
-
-    ghost gets_more = { gets_more };
+    ghost adds_up = { adds_up };
 
     #[inline(always)]
     fn give(&mut self, outlet: &mut Outlet, event: Event<Packet>) {

@@ -1,6 +1,6 @@
 //! What takes what recovering sources say.
 
-ghost use Rattle.std.specs.Prelude.{◌≡◌, ◌↔◌, ◌+◌, ◌<◌, ◌≤◌, ◌++◌, ◌∷◌, [], ℕ, List, Some, length, IsTrue};
+ghost use Rattle.std.specs.Prelude.{◌≡◌, ◌↔◌, ◌+◌, ◌<◌, ◌≤◌, ◌∷◌, [], ℕ, List, Some, length, IsTrue};
 ghost use Rattle.source_events.specs.declared.event.Event.{Event};
 ghost use Rattle.source_events.specs.declared.packet.Packet.{Packet};
 ghost use Rattle.source_events.specs.declared.packet.Packet.TheVariants.{Itm, Stp};
@@ -11,6 +11,7 @@ ghost use Rattle.itm_grammar.specs.declared.packet.ItmPacket.{ItmPacket};
 ghost use Rattle.stp_grammar.specs.Said.{said_item};
 ghost use Rattle.stp_grammar.specs.declared.said.Said.{Said};
 ghost use Rattle.stp_grammar.specs.declared.item.StpItem.{StpItem};
+ghost use Rattle.source_merge.specs.Giving.{AddsUp};
 ghost use Rattle.stretch_readings.specs.declared.heard.Heard.{Heard};
 ghost use Rattle.recovering_machines.specs.Hearing.{HeardFits, raw_event, read_event, trigger_event};
 
@@ -76,9 +77,6 @@ pub trait Hearer {
         ensures gets { gets (self.old, to.old) (trigger_event source at byte ∷ []) (self.new, to.new) }
         ensures room { room (self.old, to.old) ≤ room (self.new, to.new) + 1 };
 
-    // given nothing it is as before
-    ghost gets_none: { (s : Self × Self.To) → gets s [] s };
     // given some events and then more, it was given all of them
-    ghost gets_more: { (a b c : Self × Self.To) (es fs : List (Event (Heard Packet))) →
-        gets a es b → gets b fs c → gets a (es ++ fs) c };
+    ghost adds_up: { AddsUp gets };
 }

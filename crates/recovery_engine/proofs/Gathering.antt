@@ -29,7 +29,7 @@ use Rattle.recovery_engine.specs.Counting.{HasCounted}
 use Rattle.recovery_engine.specs.Engine.{Stands, count_of, guesses_of, plan_of}
 use Rattle.recovery_engine.specs.Front.{Adds, TakesFront}
 use Rattle.recovery_engine.specs.Heard.{AreUnread, is_packet}
-use Rattle.recovery_engine.specs.HeardLaws.{gets_more, gets_none}
+use Rattle.recovery_engine.specs.HeardLaws.{adds_up}
 use Rattle.recovery_engine.specs.Port.{PortStands}
 use Rattle.recovery_engine.specs.Slots.{StandFor}
 use Rattle.recovery_engine.specs.Taking.{Takes}
@@ -105,10 +105,10 @@ fronted gets left frame n piece old new here size room q plan guesses count adds
 
 -- what a source that is not mapped sends is no packet and no fault
 unread_more : (es fs : List (Event (Heard Packet))) → AreUnread es → AreUnread fs → AreUnread (es ++ fs)
-unread_more es fs h k counts = gets_more (counts, tt) (counts, tt) (counts, tt) es fs (h counts) (k counts)
+unread_more es fs h k counts = adds_up.more (counts, tt) (counts, tt) (counts, tt) es fs (h counts) (k counts)
 
 none_unread : AreUnread []
-none_unread counts = gets_none (counts, tt)
+none_unread counts = adds_up.none (counts, tt)
 
 one_unread : (e : Event (Heard Packet)) → is_packet e.what ≡ false → is_fault e.what ≡ false → AreUnread (e ∷ [])
 one_unread e p f counts before h = record {

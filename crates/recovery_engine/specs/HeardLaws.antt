@@ -5,13 +5,17 @@ use Rattle.source_events.specs.declared.packet.Packet.{Packet}
 use Rattle.stretch_readings.specs.declared.heard.Heard.{Heard}
 use Rattle.recovery_engine.specs.declared.heard_counts.HeardCounts.{HeardCounts}
 use Rattle.recovery_engine.specs.Heard.{HasHeard, gets}
+use Rattle.source_merge.specs.Giving.{AddsUp}
 
 -- given nothing they are as before
-pub gets_none : (s : HeardCounts × Unit {0}) → gets s [] s
+gets_none : (s : HeardCounts × Unit {0}) → gets s [] s
 gets_none s = λ before k. subst (λ l. HasHeard s.0 l) (sym (append-nil before)) k
 
 -- given some events and then more, they have counted all of them
-pub gets_more : (a b c : HeardCounts × Unit {0}) (es fs : List (Event (Heard Packet))) → gets a es b → gets b fs c →
+gets_more : (a b c : HeardCounts × Unit {0}) (es fs : List (Event (Heard Packet))) → gets a es b → gets b fs c →
     gets a (es ++ fs) c
 gets_more a b c es fs h k = λ before j.
     subst (λ l. HasHeard c.0 l) (append_assoc before es fs) (k (before ++ es) (h before j))
+
+pub adds_up : AddsUp gets
+adds_up = record { none = gets_none; more = gets_more }

@@ -91,7 +91,7 @@ impl HeardCounts {
 impl Hearer for HeardCounts {
     ghost use Rattle.std.specs.Prelude.{⊤};
     ghost use Rattle.recovery_engine.specs.Heard.{gets, room};
-    ghost use Rattle.recovery_engine.specs.HeardLaws.{gets_more, gets_none};
+    ghost use Rattle.recovery_engine.specs.HeardLaws.{adds_up};
 
     type To = ();
 
@@ -101,9 +101,7 @@ impl Hearer for HeardCounts {
 
     ghost takes = { λ counts source kind. ⊤ };
 
-    ghost gets_none = { gets_none };
-
-    ghost gets_more = { gets_more };
+    ghost adds_up = { adds_up };
 
     fn hear(&mut self, _to: &mut (), event: Event<Heard<Packet>>) {
         match event.what {

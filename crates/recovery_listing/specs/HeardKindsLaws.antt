@@ -8,19 +8,23 @@ use Rattle.capture_actions.specs.KindCounts.{HasCounted}
 use Rattle.recovery_listing.specs.HeardKinds.{gets}
 use Rattle.recovery_listing.specs.Listing.{seen_in}
 use Rattle.recovery_listing.specs.declared.heard_kinds.HeardKinds.{HeardKinds}
+use Rattle.source_merge.specs.Giving.{AddsUp}
 
-pub gets_none : (s : HeardKinds × Unit {0}) → gets s [] s
+gets_none : (s : HeardKinds × Unit {0}) → gets s [] s
 gets_none s = record {
-  heard = heard.gets_none (s.0.heard, tt);
+  heard = heard.adds_up.none (s.0.heard, tt);
   kinds = λ before h.
       subst (λ (es : List (Event (Heard Packet))). HasCounted s.0.kinds (seen_in es)) (sym (append-nil before)) h;
 }
 
-pub gets_more : (a b c : HeardKinds × Unit {0}) (es fs : List (Event (Heard Packet))) → gets a es b → gets b fs c →
+gets_more : (a b c : HeardKinds × Unit {0}) (es fs : List (Event (Heard Packet))) → gets a es b → gets b fs c →
     gets a (es ++ fs) c
 gets_more a b c es fs g h = record {
-  heard = heard.gets_more (a.0.heard, tt) (b.0.heard, tt) (c.0.heard, tt) es fs g.heard h.heard;
+  heard = heard.adds_up.more (a.0.heard, tt) (b.0.heard, tt) (c.0.heard, tt) es fs g.heard h.heard;
   kinds = λ before k.
       subst (λ (l : List (Event (Heard Packet))). HasCounted c.0.kinds (seen_in l)) (append_assoc before es fs)
       (h.kinds (before ++ es) (g.kinds before k));
 }
+
+pub adds_up : AddsUp gets
+adds_up = record { none = gets_none; more = gets_more }

@@ -8,15 +8,16 @@ use Rattle.recovery_listing.specs.LineLaws.{near_append}
 use Rattle.recovery_listing.specs.Lister.{Stands, gets, plan_of}
 use Rattle.recovery_listing.specs.Near.{near_lines_after}
 use Rattle.recovery_listing.specs.declared.lister.RecoveringLister.{RecoveringLister}
+use Rattle.source_merge.specs.Giving.{AddsUp}
 
-pub gets_none : (s : RecoveringLister × List ℕ) → gets s [] s
+gets_none : (s : RecoveringLister × List ℕ) → gets s [] s
 gets_none s = record {
   same = refl;
   stands = λ before h. subst (λ (es : List (Event (Heard Packet))). Stands s.0 es) (sym (append-nil before)) h;
   text = λ before h. sym (append-nil s.1);
 }
 
-pub gets_more : (a b c : RecoveringLister × List ℕ) (es fs : List (Event (Heard Packet))) → gets a es b →
+gets_more : (a b c : RecoveringLister × List ℕ) (es fs : List (Event (Heard Packet))) → gets a es b →
     gets b fs c → gets a (es ++ fs) c
 gets_more a b c es fs g h =
     let p = plan_of a.0 in
@@ -32,3 +33,6 @@ gets_more a b c es fs g h =
           ∙ append_assoc a.1 (near_lines_after p before es) (near_lines_after p (before ++ es) fs)
           ∙ ap (λ (l : List ℕ). a.1 ++ l) (sym (near_append p before es fs));
     }
+
+pub adds_up : AddsUp gets
+adds_up = record { none = gets_none; more = gets_more }

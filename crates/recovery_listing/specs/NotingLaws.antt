@@ -10,6 +10,7 @@ use Rattle.source_events.specs.declared.packet.Packet.{Packet}
 use Rattle.stretch_readings.specs.declared.heard.Heard.{Heard}
 use Rattle.stretch_readings.specs.declared.heard.Heard.TheVariants.{Read, Broken, Guessed, Misread}
 use Rattle.recovering_machines.specs.Hearing.{as_strict}
+use Rattle.source_merge.specs.Giving.{AddsUp}
 use Rattle.recovery_report.specs.Report.{sure_events}
 use Rattle.recovery_listing.specs.FaultLines.{fault_lines}
 use Rattle.recovery_listing.specs.Listing.{has_fault}
@@ -33,7 +34,7 @@ losses_append own xs ys =
     flat_map-append (λ (e : Event (Heard Packet)). given_of own e (is_misread e.what)) xs ys
 
 module _ {R : Type 0} (own : (R × List ℕ) → List (Event Packet) → (R × List ℕ) → Type 0) where
-  pub gets_none : ((s : R × List ℕ) → own s [] s) → (s : Noting R × List ℕ) → NotingGets own s [] s
+  gets_none : ((s : R × List ℕ) → own s [] s) → (s : Noting R × List ℕ) → NotingGets own s [] s
   gets_none none s = record {
     same = refl;
     receiver = none (s.0.receiver, s.1);
@@ -41,7 +42,7 @@ module _ {R : Type 0} (own : (R × List ℕ) → List (Event Packet) → (R × L
     faulty = sym (or-false s.0.is_faulty);
   }
 
-  pub gets_more : ((a b c : R × List ℕ) (es fs : List (Event Packet)) → own a es b → own b fs c → own a (es ++ fs) c) →
+  gets_more : ((a b c : R × List ℕ) (es fs : List (Event Packet)) → own a es b → own b fs c → own a (es ++ fs) c) →
       (a b c : Noting R × List ℕ) (es fs : List (Event (Heard Packet))) → NotingGets own a es b →
       NotingGets own b fs c →
       NotingGets own a (es ++ fs) c
@@ -61,3 +62,6 @@ module _ {R : Type 0} (own : (R × List ℕ) → List (Event Packet) → (R × L
             ∙ or_assoc a.0.is_faulty (has_fault (sure_events es)) (has_fault (sure_events fs))
             ∙ ap (λ (f : Bool). a.0.is_faulty || f) (sym (sure_faults_append es fs));
       }
+
+  pub adds_up : AddsUp own → AddsUp (NotingGets own)
+  adds_up laws = record { none = gets_none laws.none; more = gets_more laws.more }

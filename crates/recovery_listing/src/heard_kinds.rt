@@ -95,7 +95,7 @@ impl HeardKinds {
 impl Hearer for HeardKinds {
     ghost use Rattle.std.specs.Prelude.{⊤};
     ghost use Rattle.recovery_listing.specs.HeardKinds.{gets, room};
-    ghost use Rattle.recovery_listing.specs.HeardKindsLaws.{gets_more, gets_none};
+    ghost use Rattle.recovery_listing.specs.HeardKindsLaws.{adds_up};
 
     type To = ();
 
@@ -105,9 +105,7 @@ impl Hearer for HeardKinds {
 
     ghost takes = { λ counts source kind. ⊤ };
 
-    ghost gets_none = { gets_none };
-
-    ghost gets_more = { gets_more };
+    ghost adds_up = { adds_up };
 
     fn hear(&mut self, to: &mut (), event: Event<Heard<Packet>>) {
         add_event(&mut self.kinds, &event);

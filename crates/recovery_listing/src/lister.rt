@@ -132,7 +132,7 @@ impl RecoveringLister {
 /// and the window does not see a guess.
 impl Hearer for RecoveringLister {
     ghost use Rattle.recovery_listing.specs.Lister.{Lists, gets, room};
-    ghost use Rattle.recovery_listing.specs.ListerLaws.{gets_more, gets_none};
+    ghost use Rattle.recovery_listing.specs.ListerLaws.{adds_up};
 
     type To = Outlet;
 
@@ -142,9 +142,7 @@ impl Hearer for RecoveringLister {
 
     ghost takes = { Lists };
 
-    ghost gets_none = { gets_none };
-
-    ghost gets_more = { gets_more };
+    ghost adds_up = { adds_up };
 
     fn hear(&mut self, outlet: &mut Outlet, event: Event<Heard<Packet>>) {
         let (at, half, source) = (event.at, event.half, event.source);

@@ -118,7 +118,7 @@ impl<R: Receiver<To = Outlet>> Noting<R> {
 /// Each event goes to the receiver, and at a fault the loss in its place.
 impl<R: Receiver<To = Outlet>> Hearer for Noting<R> {
     ghost use Rattle.recovery_listing.specs.Noting.{NotingGets, room};
-    ghost use Rattle.recovery_listing.specs.NotingLaws.{gets_more, gets_none};
+    ghost use Rattle.recovery_listing.specs.NotingLaws.{adds_up};
 
     type To = Outlet;
 
@@ -128,9 +128,7 @@ impl<R: Receiver<To = Outlet>> Hearer for Noting<R> {
 
     ghost takes = { λ noting source kind. R.takes noting.receiver source kind };
 
-    ghost gets_none = { gets_none R.gets R.gets_none };
-
-    ghost gets_more = { gets_more R.gets R.gets_more };
+    ghost adds_up = { adds_up R.gets R.adds_up };
 
     fn hear(&mut self, outlet: &mut Outlet, event: Event<Heard<Packet>>) {
         let (at, half, source) = (event.at, event.half, event.source);

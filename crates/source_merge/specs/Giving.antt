@@ -1,5 +1,5 @@
 -- Events that are given to a receiver, and the counts of them.
-use Rattle.std.specs.Prelude.{ℕ, ◌+◌, ◌≤◌, List, ◌++◌}
+use Rattle.std.specs.Prelude.{ℕ, ◌+◌, ◌≤◌, List, [], ◌++◌}
 use Rattle.source_merge.specs.Names.{Cell, Event, Packet, COUNT_ROOM}
 use Rattle.source_merge.specs.declared.counts.PerSource.{PerSource}
 use Rattle.source_merge.specs.Counting.{HasItems, total_of}
@@ -27,3 +27,8 @@ Gives gets room most old new says = (es : List (Event Packet)) × Given gets roo
 abbrev pub GivesTo : {S : Type 0} → (S → List (Event Packet) → S → Type 0) → S → S →
     (List (Event Packet) → Type 0) → Type 0
 GivesTo gets old new says = (es : List (Event Packet)) × gets old es new × says es
+
+-- What takes events adds them up: given none it is as before, and given some and then more it was given all of them.
+pub record AddsUp {S E : Type 0} (gets : S → List E → S → Type 0) : Type 0 where
+  pub none : (s : S) → gets s [] s
+  pub more : (a b c : S) (es fs : List E) → gets a es b → gets b fs c → gets a (es ++ fs) c

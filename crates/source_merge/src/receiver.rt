@@ -1,6 +1,6 @@
 //! What takes the events of a report as they come.
 
-ghost use Rattle.std.specs.Prelude.{◌≡◌, ◌↔◌, ◌+◌, ◌<◌, ◌≤◌, ◌++◌, ◌∷◌, [], ℕ, List, Some, length, IsTrue};
+ghost use Rattle.std.specs.Prelude.{◌≡◌, ◌↔◌, ◌+◌, ◌<◌, ◌≤◌, ◌∷◌, [], ℕ, List, Some, length, IsTrue, ⊤};
 ghost use Rattle.source_merge.specs.Names.{Event, Packet, SourceKind, EventFits, PacketFits, ToldFits, told_by};
 ghost use Rattle.source_machine.specs.declared.packets.Told.TheVariants.{Itm as SaysItm, Stp as SaysStp};
 ghost use Rattle.source_events.specs.declared.packet.Packet.TheVariants.{Itm, Stp};
@@ -8,6 +8,7 @@ ghost use Rattle.itm_grammar.specs.declared.packet.ItmPacket.{ItmPacket};
 ghost use Rattle.stp_grammar.specs.Said.{said_item};
 ghost use Rattle.stp_grammar.specs.declared.said.Said.{Said};
 ghost use Rattle.stp_grammar.specs.declared.item.StpItem.{StpItem};
+ghost use Rattle.source_merge.specs.Giving.{AddsUp};
 ghost use Rattle.source_merge.specs.Receiver.{packet_event, raw_event, trigger_event};
 
 use crate::slot::{EVENTS, Events, event_at};
@@ -25,7 +26,7 @@ pub trait Receiver {
     // how many more it has room for
     ghost room: { (Self × Self.To) → ℕ };
     // of which sources of which kind it may be given packets as what they say
-    ghost takes: { Self → ℕ → SourceKind → Type 0 };
+    ghost takes: { Self → ℕ → SourceKind → Type 0 } = { λ receiver source kind. ⊤ };
 
     /// Takes the next event.
     fn give(&mut self, to: &mut Self::To, event: Event<Packet>)
@@ -72,18 +73,14 @@ pub trait Receiver {
         ensures gets { gets (self.old, to.old) (trigger_event source at byte ∷ []) (self.new, to.new) }
         ensures room { room (self.old, to.old) ≤ room (self.new, to.new) + 1 };
 
-    // given nothing it is as before
-    ghost gets_none: { (s : Self × Self.To) → gets s [] s };
     // given some events and then more, it was given all of them
-    ghost gets_more: { (a b c : Self × Self.To) (es fs : List (Event Packet)) →
-        gets a es b → gets b fs c → gets a (es ++ fs) c };
+    ghost adds_up: { AddsUp gets };
 }
 
 /// A list of events, which has them in the order in which they came.
 impl Receiver for Events {
-    ghost use Rattle.std.specs.Prelude.{⊤};
     ghost use Rattle.source_merge.specs.Receiver.{list_gets, list_room};
-    ghost use Rattle.source_merge.specs.ReceiverLaws.{list_gets_none, list_gets_more};
+    ghost use Rattle.source_merge.specs.ReceiverLaws.{list_adds_up};
 
     type To = ();
 
@@ -91,11 +88,7 @@ impl Receiver for Events {
 
     ghost room = { list_room };
 
-    ghost takes = { λ events source kind. ⊤ };
-
-    ghost gets_none = { list_gets_none };
-
-    ghost gets_more = { list_gets_more };
+    ghost adds_up = { list_adds_up };
 
     #[inline(always)]
     fn events_left(&self, _to: &()) -> usize {

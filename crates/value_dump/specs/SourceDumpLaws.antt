@@ -6,8 +6,9 @@ use Rattle.value_dump.specs.DumpLaws.{lines_append, packets_append}
 use Rattle.value_dump.specs.Dumping.{Stands, hz_of}
 use Rattle.value_dump.specs.SourceDump.{gets}
 use Rattle.value_dump.specs.declared.source_dump.SourceDump.{SourceDump}
+use Rattle.source_merge.specs.Giving.{AddsUp}
 
-pub gets_none : (s : SourceDump × List ℕ) → gets s [] s
+gets_none : (s : SourceDump × List ℕ) → gets s [] s
 gets_none s = record {
   source = refl;
   hz = refl;
@@ -15,7 +16,7 @@ gets_none s = record {
   text = λ before h. sym (append-nil s.1);
 }
 
-pub gets_more : (a b c : SourceDump × List ℕ) (es fs : List (Event Packet)) → gets a es b → gets b fs c →
+gets_more : (a b c : SourceDump × List ℕ) (es fs : List (Event Packet)) → gets a es b → gets b fs c →
     gets a (es ++ fs) c
 gets_more a b c es fs g h =
     let one = itm_packets a.0.source es in
@@ -42,3 +43,6 @@ gets_more a b c es fs g h =
           ∙ ap (λ (l : List ℕ). a.1 ++ l) (sym (lines_append hz before one two))
           ∙ ap (λ (l : List ItmPacket). a.1 ++ lines_after hz before l) (sym (packets_append a.0.source es fs));
     }
+
+pub adds_up : AddsUp gets
+adds_up = record { none = gets_none; more = gets_more }

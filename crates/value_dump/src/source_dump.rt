@@ -56,9 +56,8 @@ impl SourceDump {
 
 /// Of all events the packets of the source alone are looked at.
 impl Receiver for SourceDump {
-    ghost use Rattle.std.specs.Prelude.{⊤};
     ghost use Rattle.value_dump.specs.SourceDump.{gets, room};
-    ghost use Rattle.value_dump.specs.SourceDumpLaws.{gets_none, gets_more};
+    ghost use Rattle.value_dump.specs.SourceDumpLaws.{adds_up};
 
     type To = Outlet;
 
@@ -66,11 +65,7 @@ impl Receiver for SourceDump {
 
     ghost room = { room };
 
-    ghost takes = { λ dump source kind. ⊤ };
-
-    ghost gets_none = { gets_none };
-
-    ghost gets_more = { gets_more };
+    ghost adds_up = { adds_up };
 
     fn give(&mut self, outlet: &mut Outlet, event: Event<Packet>) {
         if let What::Packet(Packet::Itm(packet)) = &event.what {

@@ -20,8 +20,8 @@ kind g = record {
 
 pub loop-done-init : goal.loop-done-init
 loop-done-init g c =
-    found.begun (kind g) g.M.Finds.source g.V.Hearer.gets g.V.Hearer.room g.met.V.Hearer.gets_none
-    g.met.V.Hearer.gets_more c.args.id (g.R.Run.cells c.args.run.now) c.args.from c.args.machine.now
+    found.begun (kind g) g.M.Finds.source g.V.Hearer.gets g.V.Hearer.room g.met.V.Hearer.adds_up.none
+    g.met.V.Hearer.adds_up.more c.args.id (g.R.Run.cells c.args.run.now) c.args.from c.args.machine.now
     (c.args.out.now, c.args.to.now) (λ m u s. (g.met.M.Finds.reads_shows m u s).live_is) c.requires.live
     c.requires.from
 
@@ -36,13 +36,13 @@ loop-done-preserved-in-Ends g c =
     let within : done + taken.bytes ≤ length run =
     (let a = end.bytes.1 in let b = few.1 in let h = c.loop-done-test.true in let e = c.len-in-loop-done.ensures in
     let f = c.len.ensures in omega (arith, a, b, h, e, f)) in
-    found.more (kind g) g.M.Finds.source g.V.Hearer.gets g.V.Hearer.room g.met.V.Hearer.gets_none
-    g.met.V.Hearer.gets_more c.args.id run c.args.from c.args.machine.now (c.args.out.now, c.args.to.now)
+    found.more (kind g) g.M.Finds.source g.V.Hearer.gets g.V.Hearer.room g.met.V.Hearer.adds_up.none
+    g.met.V.Hearer.adds_up.more c.args.id run c.args.from c.args.machine.now (c.args.out.now, c.args.to.now)
     done taken.bytes c.look.new.machine c.end-taken.new.self (c.loop-done.out, c.loop-done.to)
     (c.hear_found.new.out, c.hear_found.new.to) last (told_in taken.half taken.item)
     (ended taken.half last.at (packet_of taken.item)) c.ahead-ahead.result.now
-    (found.stayed (kind g) g.M.Finds.source g.V.Hearer.gets g.V.Hearer.room g.met.V.Hearer.gets_none
-    g.met.V.Hearer.gets_more c.args.id run c.args.from c.args.machine.now (c.args.out.now, c.args.to.now)
+    (found.stayed (kind g) g.M.Finds.source g.V.Hearer.gets g.V.Hearer.room g.met.V.Hearer.adds_up.none
+    g.met.V.Hearer.adds_up.more c.args.id run c.args.from c.args.machine.now (c.args.out.now, c.args.to.now)
     done c.loop-done.machine c.look.new.machine (c.loop-done.out, c.loop-done.to) c.look.ensures.same
     c.look.ensures.alike c.look.ensures.live
     (c.look.ensures.idles (λ w. (let z = c.in-Ends.is in let q = w in cc))) c.loop-done.invariant)
@@ -66,19 +66,19 @@ loop-done-preserved g c =
     subst (λ (n : ℕ). TookPackets (kind g) g.M.Finds.source g.V.Hearer.gets g.V.Hearer.room c.args.id run c.args.from n
     c.args.machine.now c.look.new.machine (c.args.out.now, c.args.to.now) (c.loop-done.out, c.loop-done.to))
     (let e = c.len-done.ensures in omega (arith, e, length_is, inside))
-    (found.more (kind g) g.M.Finds.source g.V.Hearer.gets g.V.Hearer.room g.met.V.Hearer.gets_none
-    g.met.V.Hearer.gets_more c.args.id run c.args.from c.args.machine.now (c.args.out.now, c.args.to.now)
+    (found.more (kind g) g.M.Finds.source g.V.Hearer.gets g.V.Hearer.room g.met.V.Hearer.adds_up.none
+    g.met.V.Hearer.adds_up.more c.args.id run c.args.from c.args.machine.now (c.args.out.now, c.args.to.now)
     done count c.loop-done.machine c.look.new.machine (c.loop-done.out, c.loop-done.to)
     (c.loop-done.out, c.loop-done.to) (last_of run done count) None [] c.ahead-ahead.result.now
     i some within (last_is run done count some within) c.ahead-ahead.ensures.bytes
     (let k = c.ahead-ahead.ensures.room in omega (arith, k)) c.look.ensures.same c.look.ensures.alike
     c.look.ensures.live (c.look.ensures.few c.in-Waits.is) (c.look.ensures.waits c.in-Waits.is) refl
-    (g.met.V.Hearer.gets_none (c.loop-done.out, c.loop-done.to)) (omega arith))
+    (g.met.V.Hearer.adds_up.none (c.loop-done.out, c.loop-done.to)) (omega arith))
 
 pub returns-in-Unknown : goal.returns-in-Unknown
 returns-in-Unknown g c =
-    found.stayed (kind g) g.M.Finds.source g.V.Hearer.gets g.V.Hearer.room g.met.V.Hearer.gets_none
-    g.met.V.Hearer.gets_more c.args.id (g.R.Run.cells c.args.run.now) c.args.from c.args.machine.now
+    found.stayed (kind g) g.M.Finds.source g.V.Hearer.gets g.V.Hearer.room g.met.V.Hearer.adds_up.none
+    g.met.V.Hearer.adds_up.more c.args.id (g.R.Run.cells c.args.run.now) c.args.from c.args.machine.now
     (c.args.out.now, c.args.to.now) c.loop-done.done c.loop-done.machine c.look.new.machine
     (c.loop-done.out, c.loop-done.to) c.look.ensures.same
     c.look.ensures.alike c.look.ensures.live

@@ -14,7 +14,7 @@ returns-in-Locked-clause-received g c =
     let gets = g.V.Hearer.gets in
     let a = c.event_at-in-Locked.result in
     let b = c.event_at-in-Locked-2.result in
-    let both = g.met.V.Hearer.gets_more (c.args.out.now, c.args.to.now)
+    let both = g.met.V.Hearer.adds_up.more (c.args.out.now, c.args.to.now)
     (c.hear-in-Locked.new.self, c.hear-in-Locked.new.to) (c.hear-in-Locked-2.new.self, c.hear-in-Locked-2.new.to)
     (a ∷ []) (b ∷ []) c.hear-in-Locked.ensures.gets c.hear-in-Locked-2.ensures.gets in
     let first : Event (Heard Packet) = record {

@@ -46,7 +46,7 @@ returns-in-Some-clause-takes g c =
     ∙ length-take-le count (drop from cells) (let d = length-drop from cells in omega (arith, d, within)) in
     subst (λ (l : List Cell). TakesRun g.V.Hearer.gets g.V.Hearer.room c.args.id l c.args.source.now c.take.new.self
     (c.args.out.now, c.args.to.now) (c.hear_packet.new.out, c.hear_packet.new.to)) (sym parts)
-    (takes_cells g.V.Hearer.gets g.V.Hearer.room g.met.V.Hearer.gets_none g.met.V.Hearer.gets_more c.args.id
+    (takes_cells g.V.Hearer.gets g.V.Hearer.room g.met.V.Hearer.adds_up.none g.met.V.Hearer.adds_up.more c.args.id
     c.args.source.now c.take.new.self (c.args.out.now, c.args.to.now) (c.hear_packet.new.out, c.hear_packet.new.to)
     before last (take count (take (c.len.result - from) (drop from ahead))) taken.half taken.item c.take.ensures.kind
     c.take.ensures.reads c.in-Some.ensures.takes there (let f = c.in-Some.ensures.few in omega (arith, f, size))
@@ -63,15 +63,15 @@ returns-clause-takes g c =
     c.cell-cell.ensures ∙ ap (λ (n : ℕ). get_or cells n cell) (let e : from ≡ from + 1 - 1 = omega arith in e) in
     let parts : between from (from + 1) cells ≡ cell ∷ [] =
     between_as from 1 cells ∙ last_parts cells from 1 cell (omega arith) within is in
-    let none = takes_idle g.V.Hearer.gets g.V.Hearer.room g.met.V.Hearer.gets_none g.met.V.Hearer.gets_more c.args.id
+    let none = takes_idle g.V.Hearer.gets g.V.Hearer.room g.met.V.Hearer.adds_up.none g.met.V.Hearer.adds_up.more c.args.id
     c.args.source.now c.take.new.self (c.args.out.now, c.args.to.now) c.take.ensures.kind c.take.ensures.reads idle.0
     idle.1 in
-    let one = takes_one g.V.Hearer.gets g.V.Hearer.room g.met.V.Hearer.gets_none g.met.V.Hearer.gets_more c.args.id
+    let one = takes_one g.V.Hearer.gets g.V.Hearer.room g.met.V.Hearer.adds_up.none g.met.V.Hearer.adds_up.more c.args.id
     c.take.new.self c.feed-step.new.self (c.args.out.now, c.args.to.now) (c.hear_step.new.out, c.hear_step.new.to) cell
     c.feed-step.result c.feed-step.ensures.kind c.feed-step.ensures.reads c.feed-step.ensures.list
     c.feed-step.ensures.given c.feed-step.ensures.few c.hear_step.ensures.received c.hear_step.ensures.room in
     subst (λ (l : List Cell). TakesRun g.V.Hearer.gets g.V.Hearer.room c.args.id l c.args.source.now
     c.feed-step.new.self (c.args.out.now, c.args.to.now) (c.hear_step.new.out, c.hear_step.new.to)) (sym parts)
-    (takes_then g.V.Hearer.gets g.V.Hearer.room g.met.V.Hearer.gets_none g.met.V.Hearer.gets_more c.args.id
+    (takes_then g.V.Hearer.gets g.V.Hearer.room g.met.V.Hearer.adds_up.none g.met.V.Hearer.adds_up.more c.args.id
     c.args.source.now c.take.new.self c.feed-step.new.self (c.args.out.now, c.args.to.now)
     (c.args.out.now, c.args.to.now) (c.hear_step.new.out, c.hear_step.new.to) [] (cell ∷ []) none one)

@@ -22,7 +22,7 @@ returns-then-is_empty-clause-takes g t c =
     let h = c.if-is_empty.true in grind (arith, nat_tests)) in
     subst (λ l. Takes g.V.Hearer.gets (map Run (runs_of l)) (c.args.slots.now, (c.args.out.now, c.args.to.now))
     (c.args.slots.now, (c.args.out.now, c.args.to.now))) (sym (no_cells c.args.cells.now none))
-    (takes_none g.V.Hearer.gets g.met.V.Hearer.gets_none (c.args.slots.now, (c.args.out.now, c.args.to.now)))
+    (takes_none g.V.Hearer.gets g.met.V.Hearer.adds_up.none (c.args.slots.now, (c.args.out.now, c.args.to.now)))
 
 pub returns-clause-takes : goal.returns-clause-takes
 returns-clause-takes g t c =
@@ -37,7 +37,7 @@ returns-clause-takes g t c =
     subst (λ l. Takes g.V.Hearer.gets (map Run l) (c.args.slots.now, (c.args.out.now, c.args.to.now))
     (c.take_frame.new.slots, (c.take_frame.new.out, c.take_frame.new.to)))
     (ap (λ l. take n cells ∷ runs_of l) tail ∙ sym (cut_at cells n c.run_length-n.ensures.value some))
-    (takes_then g.V.Hearer.gets g.met.V.Hearer.gets_more (c.args.slots.now, (c.args.out.now, c.args.to.now)) (
+    (takes_then g.V.Hearer.gets g.met.V.Hearer.adds_up.more (c.args.slots.now, (c.args.out.now, c.args.to.now)) (
       c.take_run.new.slots,
       (c.take_run.new.out, c.take_run.new.to),
     ) (c.take_frame.new.slots, (c.take_frame.new.out, c.take_frame.new.to))

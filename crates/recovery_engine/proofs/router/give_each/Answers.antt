@@ -26,7 +26,7 @@ loop-index-preserved g c =
           (sym (ap (raw_each x) next
           ∙ flat_map-append (λ (k : Cell). told (Some x) (raw_events x (k ∷ []))) (take i cells) (cell ∷ [])
           ∙ ap (λ l. raw_each x (take i cells) ++ l) (append-nil (told (Some x) (raw_events x (cell ∷ []))))))
-          (g.met.V.Hearer.gets_more (c.args.out.now, c.args.to.now) (c.loop-index.out, c.loop-index.to)
+          (g.met.V.Hearer.adds_up.more (c.args.out.now, c.args.to.now) (c.loop-index.out, c.loop-index.to)
           (c.give_raw.new.out, c.give_raw.new.to) (raw_each x (take i cells))
           (told (Some x) (raw_events x (cell ∷ []))) c.loop-index.invariant.given
           (subst (λ (l : List Cell). g.V.Hearer.gets (c.loop-index.out, c.loop-index.to)

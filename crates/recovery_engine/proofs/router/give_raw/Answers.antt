@@ -21,7 +21,7 @@ returns-then-number-eq-NULL-clause-given g c =
     subst (λ n. g.V.Hearer.gets (c.args.out.now, c.args.to.now) (told_by x n (g.R.Run.cells c.args.run.now))
     (c.args.out.now, c.args.to.now))
     (sym (sym c.number-number.ensures.value ∙ c.if-number-eq-NULL.true))
-    (g.met.V.Hearer.gets_none (c.args.out.now, c.args.to.now))
+    (g.met.V.Hearer.adds_up.none (c.args.out.now, c.args.to.now))
 
 pub returns-then-number-eq-TRIGGER-clause-given : goal.returns-then-number-eq-TRIGGER-clause-given
 returns-then-number-eq-TRIGGER-clause-given g c =

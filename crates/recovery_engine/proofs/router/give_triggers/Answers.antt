@@ -3,7 +3,7 @@ use Rattle.source_merge.proofs.Triggers.{told_by, trigger, one_more}
 use Rattle.recovery_engine.proofs.router.give_triggers.Goals as goal
 
 pub loop-index-init : goal.loop-index-init
-loop-index-init g c = record { given = g.met.V.Hearer.gets_none (c.args.out.now, c.args.to.now); space = omega arith }
+loop-index-init g c = record { given = g.met.V.Hearer.adds_up.none (c.args.out.now, c.args.to.now); space = omega arith }
 
 pub hear_trigger-requires : goal.hear_trigger-requires
 hear_trigger-requires g c = record {
@@ -25,7 +25,7 @@ loop-index-preserved g c =
           (c.hear_trigger.new.self, c.hear_trigger.new.to))
           (one_more x run k cell (let n = c.len-index-end.ensures in let h = c.loop-index-test.true in
           omega (arith, n, h)) c.cell-cell.ensures)
-          (g.met.V.Hearer.gets_more (c.args.out.now, c.args.to.now) (c.loop-index.out, c.loop-index.to)
+          (g.met.V.Hearer.adds_up.more (c.args.out.now, c.args.to.now) (c.loop-index.out, c.loop-index.to)
           (c.hear_trigger.new.self, c.hear_trigger.new.to) (told_by x (take k run))
           (trigger x cell ∷ []) i.given c.hear_trigger.ensures.gets);
       space = (let a = i.space in let h = c.hear_trigger.ensures.room in omega (arith, a, h));

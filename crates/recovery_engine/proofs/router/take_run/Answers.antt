@@ -9,7 +9,7 @@ use Rattle.recovery_engine.proofs.router.take_run.Goals as goal
 pub returns-in_default-clause-takes : goal.returns-in_default-clause-takes
 returns-in_default-clause-takes g c = (
   [],
-  g.met.V.Hearer.gets_none (c.args.out.now, c.args.to.now),
+  g.met.V.Hearer.adds_up.none (c.args.out.now, c.args.to.now),
   λ guesses plan parts k. grown_none guesses plan parts (g.R.Run.cells c.args.run.now) c.args.slots.now
       (c.requires.own.own ∙ c.in_default.is) k,
 )

@@ -17,7 +17,7 @@ returns-in-Quiet-clause-takes g c =
         | inr e ↦ ap (λ s. parts_by 0 c.args.at s c.args.cells.now) e
       ]
     ]))
-    (takes_none g.V.Hearer.gets g.met.V.Hearer.gets_none (c.args.slots.now, (c.args.out.now, c.args.to.now)))
+    (takes_none g.V.Hearer.gets g.met.V.Hearer.adds_up.none (c.args.slots.now, (c.args.out.now, c.args.to.now)))
 
 pub returns-in-Frame-clause-takes : goal.returns-in-Frame-clause-takes
 returns-in-Frame-clause-takes g c =

@@ -23,7 +23,7 @@ loop-run-init g c =
           (c.args.slots.now, (c.args.out.now, c.args.to.now)) l (c.args.slots.now, (c.args.out.now, c.args.to.now)))
           (sym c.runs-left.ensures.all)
           (none_taken g.V.Hearer.gets g.V.Hearer.room (split_cells split)
-          (c.args.slots.now, (c.args.out.now, c.args.to.now)) g.met.V.Hearer.gets_none);
+          (c.args.slots.now, (c.args.out.now, c.args.to.now)) g.met.V.Hearer.adds_up.none);
     }
 
 -- a frame has at most 15 cells
@@ -58,7 +58,7 @@ loop-run-preserved g c =
       left = c.in-Some.ensures.left;
       so_far =
           one_more g.V.Hearer.gets g.V.Hearer.room (split_cells split)
-          (c.args.slots.now, (c.args.out.now, c.args.to.now)) g.met.V.Hearer.gets_more
+          (c.args.slots.now, (c.args.out.now, c.args.to.now)) g.met.V.Hearer.adds_up.more
           (left_cells split c.loop-run.left) (run_in run) (left_cells split c.next_run.new.left)
           (c.loop-run.slots, (c.loop-run.out, c.loop-run.to))
           (c.take_run.new.slots, (c.take_run.new.out, c.take_run.new.to))

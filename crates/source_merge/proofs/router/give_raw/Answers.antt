@@ -21,7 +21,7 @@ returns-then-number-eq-NULL g c =
     given_as g.V.Receiver.gets g.V.Receiver.room (2 * length run) (c.args.items.now, (c.args.out.now, c.args.to.now))
     (c.args.items.now, (c.args.out.now, c.args.to.now)) [] (told (Some x) (raw_events x run))
     (null_run x run (sym c.number-number.ensures.value ∙ c.if-number-eq-NULL.true))
-    (given_none g.V.Receiver.gets g.V.Receiver.room g.met.V.Receiver.gets_none _ (c.args.items.now, (c.args.out.now, c.args.to.now)))
+    (given_none g.V.Receiver.gets g.V.Receiver.room g.met.V.Receiver.adds_up.none _ (c.args.items.now, (c.args.out.now, c.args.to.now)))
 
 pub returns-then-number-eq-TRIGGER : goal.returns-then-number-eq-TRIGGER
 returns-then-number-eq-TRIGGER g c =

@@ -6,7 +6,7 @@ use Rattle.source_merge.proofs.router.give_triggers.Goals as goal
 
 pub loop-index-init : goal.loop-index-init
 loop-index-init g c =
-    given_none g.V.Receiver.gets g.V.Receiver.room g.met.V.Receiver.gets_none 0 (c.args.items.now, (c.args.out.now, c.args.to.now))
+    given_none g.V.Receiver.gets g.V.Receiver.room g.met.V.Receiver.adds_up.none 0 (c.args.items.now, (c.args.out.now, c.args.to.now))
 
 pub loop-index-preserved : goal.loop-index-preserved
 loop-index-preserved g c =
@@ -20,7 +20,7 @@ loop-index-preserved g c =
     (c.add_event.new.self, (c.give_trigger.new.self, c.give_trigger.new.to)) (told_by x (take k run) ++ event ∷ []) (told_by x (take (k + 1) run))
     (one_more x run k c.cell-cell.result
     (let n = c.len-index-end.ensures in let h = c.loop-index-test.true in omega arith) c.cell-cell.ensures)
-    (given_more gets room g.met.V.Receiver.gets_more k 1 (k + 1) (c.args.items.now, (c.args.out.now, c.args.to.now))
+    (given_more gets room g.met.V.Receiver.adds_up.more k 1 (k + 1) (c.args.items.now, (c.args.out.now, c.args.to.now))
     (c.loop-index.items, (c.loop-index.out, c.loop-index.to)) (c.add_event.new.self, (c.give_trigger.new.self, c.give_trigger.new.to))
     (told_by x (take k run)) (event ∷ []) (omega arith) c.loop-index.invariant
     (record {

@@ -15,7 +15,7 @@ use Rattle.source_merge.proofs.router.take_frame.Goals as goal
 pub loop-rest-init : goal.loop-rest-init
 loop-rest-init g c =
     none_taken g.V.Receiver.gets g.V.Receiver.room c.args.cells.now c.args.slots.now c.args.counts.now
-    (c.args.items.now, (c.args.out.now, c.args.to.now)) g.met.V.Receiver.gets_none
+    (c.args.items.now, (c.args.out.now, c.args.to.now)) g.met.V.Receiver.adds_up.none
 
 pub add_run-requires-clause-room : goal.add_run-requires-clause-room
 add_run-requires-clause-room g c =
@@ -70,7 +70,7 @@ loop-rest-preserved g c =
     rest run (drop k rest) (cut_first rest run k c.of.ensures c.run_length-n.ensures.value c.run_length-n.ensures.some within)
     c.loop-rest.slots c.take_run-stop.new.slots c.loop-rest.counts c.add_run.new.self (c.loop-rest.items, (c.loop-rest.out, c.loop-rest.to))
     (c.take_run-stop.new.items, (c.take_run-stop.new.out, c.take_run-stop.new.to)) c.loop-rest.invariant c.take_run-stop.result
-    c.take_run-stop.ensures.slots c.take_run-stop.ensures.took g.met.V.Receiver.gets_more
+    c.take_run-stop.ensures.slots c.take_run-stop.ensures.took g.met.V.Receiver.adds_up.more
     c.in_default.is (λ whole runs h. c.add_run.ensures.counted whole runs run is.1 is.0 h)
     (c.add_run.ensures.more ∙ ap (λ (n : ℕ). bytes_counted c.loop-rest.counts + n) (sym is.0)))
 
@@ -88,7 +88,7 @@ taken_to g c =
     rest run (drop k rest) (cut_first rest run k c.of.ensures c.run_length-n.ensures.value c.run_length-n.ensures.some within)
     c.loop-rest.slots c.take_run-stop.new.slots c.loop-rest.counts c.add_run.new.self (c.loop-rest.items, (c.loop-rest.out, c.loop-rest.to))
     (c.take_run-stop.new.items, (c.take_run-stop.new.out, c.take_run-stop.new.to)) c.loop-rest.invariant c.take_run-stop.result
-    c.take_run-stop.ensures.slots c.take_run-stop.ensures.took g.met.V.Receiver.gets_more c.in-Some.stop c.in-Some.is (2 ^ 58) c.requires.ready.slots_are
+    c.take_run-stop.ensures.slots c.take_run-stop.ensures.took g.met.V.Receiver.adds_up.more c.in-Some.stop c.in-Some.is (2 ^ 58) c.requires.ready.slots_are
     (λ whole runs h. c.add_run.ensures.counted whole runs run is.1 is.0 h)
     (c.add_run.ensures.more ∙ ap (λ (n : ℕ). bytes_counted c.loop-rest.counts + n) (sym is.0))
     c.count_cells.new.counts

@@ -22,7 +22,7 @@ not_stopped x (Some f) e = cc
 pub returns-in_default-clause-took : goal.returns-in_default-clause-took
 returns-in_default-clause-took g c = (
   [],
-  given_none g.V.Receiver.gets g.V.Receiver.room g.met.V.Receiver.gets_none _ (c.args.items.now, (c.args.out.now, c.args.to.now)),
+  given_none g.V.Receiver.gets g.V.Receiver.room g.met.V.Receiver.adds_up.none _ (c.args.items.now, (c.args.out.now, c.args.to.now)),
   λ runs n d a r. took_none c.args.slots.now runs n (g.R.Run.cells c.args.run.now) (c.requires.own.own ∙ c.in_default.is) a,
 )
 

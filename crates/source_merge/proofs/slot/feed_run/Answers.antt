@@ -20,7 +20,7 @@ kind g = record {
 pub loop-done-init : goal.loop-done-init
 loop-done-init g c =
     begun (kind g) g.V.Receiver.gets g.V.Receiver.room c.args.machine.now (c.args.items.now, (c.args.out.now, c.args.to.now))
-    (g.R.Run.cells c.args.run.now) c.args.source (λ m u s. (g.met.M.Finds.reads_shows m u s).live_is) g.met.V.Receiver.gets_none c.requires.live
+    (g.R.Run.cells c.args.run.now) c.args.source (λ m u s. (g.met.M.Finds.reads_shows m u s).live_is) g.met.V.Receiver.adds_up.none c.requires.live
 
 pub loop-done-preserved-in-Ends : goal.loop-done-preserved-in-Ends
 loop-done-preserved-in-Ends g c =
@@ -43,7 +43,7 @@ loop-done-preserved-in-Ends g c =
     done c.loop-done.machine c.look.new.machine was c.look.ensures.same c.look.ensures.live
     (c.look.ensures.idles (λ w. (let z = c.in-Ends.is in let q = w in cc))) c.loop-done.invariant)
     (given_within g.V.Receiver.gets g.V.Receiver.room 1 (2 * taken.bytes) was _ es (let b = found.bytes.0 in omega arith) c.give_told.ensures)
-    g.met.V.Receiver.gets_more within (record {
+    g.met.V.Receiver.adds_up.more within (record {
       same = found.same;
       live = found.live;
       few = found.few;
@@ -71,7 +71,7 @@ loop-done-preserved-in-Waits g c =
     (let e = c.len-done.ensures in omega (arith, e, length_is, i.within))
     (fed_on (kind g) g.V.Receiver.gets g.V.Receiver.room c.args.machine.now (c.args.items.now, (c.args.out.now, c.args.to.now)) run c.args.source
     done count c.loop-done.machine c.look.new.machine now now [] i
-    (given_none g.V.Receiver.gets g.V.Receiver.room g.met.V.Receiver.gets_none _ now) g.met.V.Receiver.gets_more within (record {
+    (given_none g.V.Receiver.gets g.V.Receiver.room g.met.V.Receiver.adds_up.none _ now) g.met.V.Receiver.adds_up.more within (record {
       same = c.look.ensures.same;
       live = c.look.ensures.live;
       few = c.look.ensures.few c.in-Waits.is;
@@ -94,7 +94,7 @@ loop-done-preserved g c =
     (fed_kept (kind g) g.V.Receiver.gets g.V.Receiver.room c.args.machine.now (c.args.items.now, (c.args.out.now, c.args.to.now)) run c.args.source
     done c.loop-done.machine c.look.new.machine was c.look.ensures.same c.look.ensures.live
     (c.look.ensures.idles (λ w. (let z = c.in-Unknown.is in let q = w in cc))) c.loop-done.invariant)
-    fed.1 g.met.V.Receiver.gets_more step.bytes.1
+    fed.1 g.met.V.Receiver.adds_up.more step.bytes.1
     (subst (λ (f : Option Fault). PartFed (kind g) c.look.new.machine c.feed_slowly-step.new.machine done c.feed_slowly-step.result.bytes
     (part (kind g) g.V.Receiver.gets g.V.Receiver.room c.args.machine.now (c.args.items.now, (c.args.out.now, c.args.to.now)) run c.args.source fed.0 f))
     c.in_default.is fed.2)
@@ -112,7 +112,7 @@ returns-in-Some g c =
     (fed_kept (kind g) g.V.Receiver.gets g.V.Receiver.room c.args.machine.now (c.args.items.now, (c.args.out.now, c.args.to.now)) run c.args.source
     done c.loop-done.machine c.look.new.machine was c.look.ensures.same c.look.ensures.live
     (c.look.ensures.idles (λ w. (let z = c.in-Unknown.is in let q = w in cc))) c.loop-done.invariant)
-    fed.1 g.met.V.Receiver.gets_more g.met.M.Finds.reads_settles step.bytes.1 c.in-Some.fault
+    fed.1 g.met.V.Receiver.adds_up.more g.met.M.Finds.reads_settles step.bytes.1 c.in-Some.fault
     (subst (λ (f : Option Fault). PartFed (kind g) c.look.new.machine c.feed_slowly-step.new.machine done c.feed_slowly-step.result.bytes
     (part (kind g) g.V.Receiver.gets g.V.Receiver.room c.args.machine.now (c.args.items.now, (c.args.out.now, c.args.to.now)) run c.args.source fed.0 f))
     c.in-Some.is fed.2)

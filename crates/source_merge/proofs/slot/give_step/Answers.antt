@@ -13,5 +13,5 @@ returns-in-Locked-clause-given g c =
     let events : c.event_at-in-Locked.result ∷ c.event_at-in-Locked-2.result ∷ []
     ≡ told (Some c.args.source) (lifted (given_by c.args.at c.args.step)) = cc in
     given_as gets g.V.Receiver.room 2 _ _ _ _ events
-    (given_more gets g.V.Receiver.room g.met.V.Receiver.gets_more 1 1 2 _ _ _ _ _ (omega arith) c.give-in-Locked.ensures
+    (given_more gets g.V.Receiver.room g.met.V.Receiver.adds_up.more 1 1 2 _ _ _ _ _ (omega arith) c.give-in-Locked.ensures
     c.give-in-Locked-2.ensures)

@@ -108,7 +108,7 @@ returns-in-Locked-clause-taken g c = (
 pub returns-in-Fault-clause-taken : goal.returns-in-Fault-clause-taken
 returns-in-Fault-clause-taken g c = (
   [],
-  given_none g.V.Receiver.gets g.V.Receiver.room g.met.V.Receiver.gets_none 30 (c.args.items.now, (c.args.out.now, c.args.to.now)),
+  given_none g.V.Receiver.gets g.V.Receiver.room g.met.V.Receiver.adds_up.none 30 (c.args.items.now, (c.args.out.now, c.args.to.now)),
   λ mode u byte rise answer none d a.
       fails c.args.slots.now c.requires.ready.slots_are mode u c.args.at byte rise none a c.args.step
       (g.F.FrameCells.cells c.args.frame.now) answer c.in-Fault.fault c.in-Fault.is,
@@ -117,7 +117,7 @@ returns-in-Fault-clause-taken g c = (
 pub returns-in-Quiet-clause-taken : goal.returns-in-Quiet-clause-taken
 returns-in-Quiet-clause-taken g c = (
   [],
-  given_none g.V.Receiver.gets g.V.Receiver.room g.met.V.Receiver.gets_none 30 (c.args.items.now, (c.args.out.now, c.args.to.now)),
+  given_none g.V.Receiver.gets g.V.Receiver.room g.met.V.Receiver.adds_up.none 30 (c.args.items.now, (c.args.out.now, c.args.to.now)),
   λ mode u byte rise answer none d a.
       let cells = g.F.FrameCells.cells c.args.frame.now in
       ends_none c.args.slots.now c.requires.ready.slots_are mode u c.args.at byte rise none a c.args.step cells answer

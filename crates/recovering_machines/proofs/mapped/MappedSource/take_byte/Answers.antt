@@ -27,7 +27,7 @@ returns g c =
     between_as index 1 cells ∙ last_parts cells index 1 cell (omega arith) within is in
     subst (λ (l : List Cell). TakesMapped g.V.Hearer.gets g.V.Hearer.room c.args.id l old new
     (c.args.out.now, c.args.to.now) (c.hear_answer.new.out, c.hear_answer.new.to)) (sym parts)
-    (mapped_one g.V.Hearer.gets g.V.Hearer.room g.met.V.Hearer.gets_none g.met.V.Hearer.gets_more c.args.id old new
+    (mapped_one g.V.Hearer.gets g.V.Hearer.room g.met.V.Hearer.adds_up.none g.met.V.Hearer.adds_up.more c.args.id old new
     (c.args.out.now, c.args.to.now) (c.hear_answer.new.out, c.hear_answer.new.to) cell c.follow-answer.result
     c.requires.guesses refl fed.kind fed.reads fed.list
     (λ r start l k f. same_source guess old.sure sure (cell.at + 1) (with_byte old.sure r cell.at cell.byte) fed.kind

@@ -28,7 +28,7 @@ returns-then-found-len-clause-takes g c =
     (c.args.out.now, c.args.to.now) (more.new.out, more.new.to))
     (sym (between_more c.args.from found.result more.result cells found.ensures.within.0
     (let a = more.ensures.within.0 in omega (arith, a)) more.ensures.within.1))
-    (mapped_then g.V.Hearer.gets g.V.Hearer.room g.met.V.Hearer.gets_none g.met.V.Hearer.gets_more c.args.id
+    (mapped_then g.V.Hearer.gets g.V.Hearer.room g.met.V.Hearer.adds_up.none g.met.V.Hearer.adds_up.more c.args.id
     c.args.self.now found.new.self more.new.self (c.args.out.now, c.args.to.now) (found.new.out, found.new.to)
     (more.new.out, more.new.to) (between c.args.from found.result cells) (between found.result more.result cells)
     found.ensures.takes more.ensures.takes)

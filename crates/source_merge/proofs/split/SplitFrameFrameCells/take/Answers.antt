@@ -17,7 +17,7 @@ loop-run-init g c =
           (c.args.items.now, (c.args.out.now, c.args.to.now)) l c.args.slots.now c.args.counts.now
           (c.args.items.now, (c.args.out.now, c.args.to.now))) (sym c.runs-left.ensures.all)
           (none_taken g.V.Receiver.gets g.V.Receiver.room (split_cells split) c.args.slots.now c.args.counts.now
-          (c.args.items.now, (c.args.out.now, c.args.to.now)) g.met.V.Receiver.gets_none);
+          (c.args.items.now, (c.args.out.now, c.args.to.now)) g.met.V.Receiver.adds_up.none);
     }
 
 pub loop-run-smaller : goal.loop-run-smaller
@@ -81,7 +81,7 @@ taken_to g c =
     rest run more (first_run rest run more c.in-Some.ensures.first c.source-id.ensures.some)
     c.loop-run.slots c.take_run.new.slots c.loop-run.counts c.add_run.new.self
     (c.loop-run.items, (c.loop-run.out, c.loop-run.to)) (c.take_run.new.items, (c.take_run.new.out, c.take_run.new.to)) i
-    c.take_run.result c.take_run.ensures.slots c.take_run.ensures.took g.met.V.Receiver.gets_more c.in-Some-take_run.stop c.in-Some-take_run.is (2 ^ 58)
+    c.take_run.result c.take_run.ensures.slots c.take_run.ensures.took g.met.V.Receiver.adds_up.more c.in-Some-take_run.stop c.in-Some-take_run.is (2 ^ 58)
     c.requires.ready.slots_are (λ whole runs h. c.add_run.ensures.counted whole runs run c.source-id.ensures.own (sym c.len.ensures) h)
     (let l = c.len.ensures in let d = c.add_run.ensures.more in omega (arith, l, d)) c.count_left.new.counts c.count_left.ensures
 
@@ -102,7 +102,7 @@ loop-run-preserved g c =
           (first_run rest run more c.in-Some.ensures.first c.source-id.ensures.some) c.loop-run.slots
           c.take_run.new.slots c.loop-run.counts c.add_run.new.self (c.loop-run.items, (c.loop-run.out, c.loop-run.to))
           (c.take_run.new.items, (c.take_run.new.out, c.take_run.new.to)) i c.take_run.result c.take_run.ensures.slots
-          c.take_run.ensures.took g.met.V.Receiver.gets_more c.in_default-take_run.is
+          c.take_run.ensures.took g.met.V.Receiver.adds_up.more c.in_default-take_run.is
           (λ whole runs h. c.add_run.ensures.counted whole runs run c.source-id.ensures.own (sym c.len.ensures) h)
           (let l = c.len.ensures in let d = c.add_run.ensures.more in omega (arith, l, d));
     }
