@@ -32,6 +32,14 @@ fn meets(only: &Option<Choices>, event: &Event<Packet>) -> bool
     }
 }
 
+/// Whether what this source gives meets one of the choices. It is kept out of line, so that it is in memory only here.
+#[inline(never)]
+fn hold_in(choices: &Choices, source: SourceId, content: Content) -> bool
+    ensures { result ≡ wants (Some choices.now) (Some source) content }
+{
+    choices.hold_in(Some(source), &content)
+}
+
 /// Whether an event meets one of the choices, if there are any.
 fn is_chosen(only: &Option<Choices>, event: &Event<Packet>) -> bool
     ensures { result ≡ meets only.now event.now }
@@ -78,12 +86,12 @@ impl Filter {
 
     /// Whether this, which a source gives, meets one of the choices, if there are any.
     #[inline(always)]
-    pub fn wants(&self, source: SourceId, content: &Content) -> bool
-        ensures { result ≡ wants self.now.only (Some source) content.now }
+    pub fn wants(&self, source: SourceId, content: Content) -> bool
+        ensures { result ≡ wants self.now.only (Some source) content }
     {
         match &self.only {
             None => true,
-            Some(choices) => choices.hold_in(Some(source), content),
+            Some(choices) => hold_in(choices, source, content),
         }
     }
 

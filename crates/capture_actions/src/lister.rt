@@ -257,7 +257,7 @@ impl Lister {
             (self.new, outlet.new) }
         ensures bound { length outlet.new ≤ length outlet.old + EVENT_ROOM }
     {
-        if self.filter.wants(source, &Content::Itm(packet)) {
+        if self.filter.wants(source, Content::Itm(packet)) {
             put_itm_line(
                 outlet,
                 &mut self.digits,
@@ -285,7 +285,7 @@ impl Lister {
         ensures bound { length outlet.new ≤ length outlet.old + EVENT_ROOM }
     {
         self.clocks.pass();
-        if self.filter.wants(source, &Content::Stp) {
+        if self.filter.wants(source, Content::Stp) {
             put_said_line(outlet, &mut self.digits, at, half, source, said);
         }
     }
@@ -300,7 +300,7 @@ impl Lister {
         ensures bound { length outlet.new ≤ length outlet.old + EVENT_ROOM }
     {
         self.clocks.pass();
-        if self.filter.wants(source, &Content::Raw) {
+        if self.filter.wants(source, Content::Raw) {
             put_raw_line(outlet, &mut self.digits, at, source, bytes);
         }
     }
@@ -314,7 +314,7 @@ impl Lister {
         ensures bound { length outlet.new ≤ length outlet.old + EVENT_ROOM }
     {
         self.clocks.pass();
-        if self.filter.wants(source, &Content::Trigger) {
+        if self.filter.wants(source, Content::Trigger) {
             let event = trigger_of(at, source, byte);
             print(outlet, &mut self.digits, &event, false, Remark::None);
         }
@@ -367,7 +367,7 @@ fn trigger_of(at: u64, source: SourceId, byte: u8) -> Event<Packet>
 /// An event goes to the outlet as its line, if it is listed.
 impl Receiver for Lister {
     ghost use Rattle.capture_actions.specs.Lister.{gets, room, Lists};
-    ghost use Rattle.capture_actions.specs.ListerLaws.{gets_none, gets_more};
+    ghost use Rattle.capture_actions.specs.ListerLaws.{adds_up};
 
     type To = Outlet;
 
@@ -377,9 +377,7 @@ impl Receiver for Lister {
 
     ghost takes = { Lists };
 
-    ghost gets_none = { gets_none };
-
-    ghost gets_more = { gets_more };
+    ghost adds_up = { adds_up };
 
     /// What comes so is seldom: the notice of a lock.
     #[inline(always)]

@@ -1,5 +1,5 @@
 -- What is kept of one line for the next.
-use Rattle.std.specs.Prelude.{◌≡◌, ℕ}
+use Rattle.std.specs.Prelude.{◌≡◌, ◌/◌, ℕ}
 use Rattle.stp_grammar.specs.declared.item.Place.{Place}
 use Rattle.stp_grammar.specs.declared.item.StpItem.{StpItem}
 use Rattle.stp_grammar.specs.declared.item.StpItem.TheVariants.{MasterError, Datum, Flag}
@@ -12,7 +12,7 @@ use Rattle.trace_text.specs.declared.place_text.PlaceText.{PlaceText}
 
 -- the hundreds of the number whose digits are kept
 abbrev pub hundreds_of : Digits → ℕ
-hundreds_of d = d.hundreds
+hundreds_of d = d.base / 100
 
 -- the place whose text is kept
 abbrev pub place_of : PlaceText → Place

@@ -13,13 +13,15 @@ use stp_grammar::item::{Place, StpItem};
 /// one another.
 #[derive(Drop)]
 pub struct Digits {
-    hundreds: u64,
+    /// The number with zeros for its last two digits.
+    base: u64,
     digits: [u8; 20],
     len: usize,
     pub(crate) place: PlaceText,
     ghost few: { len ≤ 20 },
     ghost sized: { length digits ≡ 20 },
-    ghost kept: { take len digits ≡ decimal hundreds },
+    ghost whole: { base % 100 ≡ 0 },
+    ghost kept: { take len digits ≡ decimal (base / 100) },
 }
 
 /// Puts the digits of a number at the front of an array, and answers how many they are.
@@ -44,7 +46,7 @@ impl Digits {
         let mut digits = [0; 20];
         let len = digits_of(0, &mut digits);
         Digits {
-            hundreds: 0,
+            base: 0,
             digits,
             len,
             place: PlaceText::of(Place {
@@ -60,19 +62,18 @@ impl Digits {
         ensures hundreds { hundreds_of self.new ≡ number / 100 }
         ensures place { self.new.place ≡ self.old.place }
     {
-        let hundreds = number / 100;
-        if hundreds != self.hundreds {
-            self.keep_hundreds(hundreds);
+        if number < self.base || number - self.base >= 100 {
+            self.keep_anew(number);
         }
     }
 
-    /// Keeps the digits of numbers with these hundreds.
-    fn keep_hundreds(&mut self, hundreds: u64)
-        ensures hundreds { hundreds_of self.new ≡ hundreds }
+    /// Keeps the digits of this number but for its last two, which are others than those that are kept.
+    fn keep_anew(&mut self, number: u64)
+        ensures hundreds { hundreds_of self.new ≡ number / 100 }
         ensures place { self.new.place ≡ self.old.place }
     {
-        self.hundreds = hundreds;
-        self.len = digits_of(hundreds, &mut self.digits);
+        self.base = number - number % 100;
+        self.len = digits_of(number / 100, &mut self.digits);
     }
 
     /// Keeps the text of the place of an item, if it has one.
@@ -106,7 +107,8 @@ impl Digits {
         }
     }
 
-    /// Puts the number, whose digits but for the last two are kept.
+    /// Puts the number, whose digits but for the last two are kept. They are put from a copy, which is nowhere in the
+    /// room: so no test whether it is goes before each line.
     #[inline]
     pub(crate) fn put(&self, room: &mut [u8], from: usize, number: u64) -> usize
         requires kept { hundreds_of self.now ≡ number / 100 }
@@ -116,7 +118,8 @@ impl Digits {
         if number < 100 {
             return put_number(room, from, number);
         }
-        let from = put_front(room, from, &self.digits, self.len);
-        put_two(room, from, (number % 100) as u8)
+        let digits = self.digits;
+        let from = put_front(room, from, &digits, self.len);
+        put_two(room, from, (number - self.base) as u8)
     }
 }

@@ -51,7 +51,8 @@ impl PlaceText {
         requires room { from + PLACE_COPY ≤ length room.old }
         ensures { Puts room.old room.new from result PLACE_ROOM (place_text place) }
     {
-        put_front(room, from, &self.text, self.len)
+        let text = self.text;
+        put_front(room, from, &text, self.len)
     }
 
     /// Puts the place whose text is kept once, or never: so many times. No branch depends on which it is.
@@ -68,6 +69,7 @@ impl PlaceText {
         requires room { from + PLACE_COPY ≤ length room.old }
         ensures { Puts room.old room.new from result PLACE_ROOM (if times == 1 then place_text place else []) }
     {
-        put_front(room, from, &self.text, self.len * times)
+        let text = self.text;
+        put_front(room, from, &text, self.len * times)
     }
 }
