@@ -1,14 +1,14 @@
 //! `check`: how many synchronisations and frames a port has, how much each source sent, and how the capture ends.
 
 ghost use Rattle.source_events.specs.declared.tails.TheConstants.{GREATEST_COUNT};
-ghost use Rattle.std.specs.Prelude.{◌≡◌, ◌+◌, ◌*◌, ◌≤◌, ◌++◌, [], ℕ, List, length, true};
+ghost use Rattle.std.specs.Prelude.{◌≡◌, ◌+◌, ◌*◌, ◌≤◌, ◌++◌, ◌==◌, ◌&&◌, [], ℕ, List, length, true};
 ghost use Rattle.capture_actions.specs.Names.{Placed, is_sound, port_counts_of, port_counts_text, source_counts_of};
 ghost use Rattle.source_merge.specs.Engine as engine;
 ghost use Rattle.capture_actions.specs.Summary.{source_text, sources_text};
 
 use crate::kind_counts::MANY;
 use crate::plan_table::sends_stp;
-use crate::reading::CaptureReading;
+use crate::reading::{CaptureReading, TURNS};
 use source_counts::Counts;
 use source_events::{Event, Packet, Plan, SourceKind};
 use source_machine::Told;
@@ -37,8 +37,7 @@ struct Ignored;
 
 /// Nothing is done with an event.
 impl Receiver for Ignored {
-    ghost use Rattle.capture_actions.specs.Ignored.{gets, room, gets_none, gets_more};
-    ghost use Rattle.std.specs.Prelude.{⊤};
+    ghost use Rattle.capture_actions.specs.Ignored.{gets, room, adds_up};
 
     type To = ();
 
@@ -46,11 +45,7 @@ impl Receiver for Ignored {
 
     ghost room = { room };
 
-    ghost takes = { λ ignored source kind. ⊤ };
-
-    ghost gets_none = { gets_none };
-
-    ghost gets_more = { gets_more };
+    ghost adds_up = { adds_up };
 
     #[inline(always)]
     fn give(&mut self, _to: &mut (), _event: Event<Packet>) {}
@@ -131,6 +126,13 @@ fn put_sources(outlet: &mut Outlet, reading: &Engine)
     }
 }
 
+/// No source is mapped.
+fn maps_none(plan: &Plan) -> bool
+    ensures { result ≡ (length plan.now.itm == 0) && (length plan.now.stp == 0) }
+{
+    plan.itm.as_slice().is_empty() && plan.stp.as_slice().is_empty()
+}
+
 impl Check {
     ghost use Rattle.source_events.specs.declared.plan.Plan.{Plan};
     ghost use Rattle.capture_actions.specs.Summary.{counts_text, summary};
@@ -140,9 +142,7 @@ impl Check {
     pub fn new(plan: Plan) -> Check
         requires sound { is_sound plan ≡ true }
         ensures plan { plan_of result ≡ plan }
-        ensures stands { Stands result [] }
-        ensures count { taken_by result ≡ 0 }
-        ensures live { IsLive result }
+        ensures fresh { Stands result [] × (taken_by result ≡ 0) × IsLive result }
     {
         Check {
             reading: CaptureReading::new(plan),
@@ -213,7 +213,12 @@ impl Action for Check {
                 is_faulty: false,
             };
         }
-        self.reading.take(piece, &mut Ignored, &mut ())
+        let turns = if maps_none(self.reading.engine.plan()) {
+            1
+        } else {
+            TURNS
+        };
+        self.reading.take(turns, piece, &mut Ignored, &mut ())
     }
 
     fn finish(&mut self, outlet: &mut Outlet) {

@@ -10,7 +10,7 @@ use crate::check::put_port;
 use crate::kind_counts::KindCounts;
 use crate::kind_lines::{KindLines, NONE, Part};
 use crate::plan_table::sends_stp;
-use crate::reading::CaptureReading;
+use crate::reading::{CaptureReading, TURNS};
 use source_counts::Counts;
 use source_events::{Plan, Tails};
 use source_merge::Engine;
@@ -61,9 +61,7 @@ impl KindCheck {
     pub fn new(plan: Plan) -> KindCheck
         requires sound { is_sound plan ≡ true }
         ensures plan { plan_of result ≡ plan }
-        ensures stands { Stands result [] }
-        ensures count { taken_by result ≡ 0 }
-        ensures live { IsLive result }
+        ensures fresh { Stands result [] × (taken_by result ≡ 0) × IsLive result }
         ensures debt { debt_of result ≡ Paid }
     {
         KindCheck {
@@ -143,7 +141,7 @@ impl Action for KindCheck {
 
     /// Takes a whole frame, or bytes up to a synchronisation or a fault, or packets, and counts them.
     fn feed(&mut self, piece: &[u8], _outlet: &mut Outlet, _notes: &mut Outlet) -> Progress {
-        self.reading.take(piece, &mut self.kinds, &mut ())
+        self.reading.take(TURNS, piece, &mut self.kinds, &mut ())
     }
 
     /// Puts the counts of the port, and owes the rest.

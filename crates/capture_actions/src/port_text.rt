@@ -5,7 +5,7 @@ ghost use Rattle.capture_actions.specs.Names.{placed, is_sound, stop_of, fault_o
 
 use crate::port_text_plan::PortTextPlan;
 use crate::port_values::PortValues;
-use crate::reading::CaptureReading;
+use crate::reading::{CaptureReading, TURNS};
 use source_events::Stop;
 use trace_stream::{Action, Outlet, Progress};
 
@@ -23,9 +23,7 @@ impl PortText {
     pub fn new(plan: PortTextPlan) -> PortText
         requires sound { is_sound plan.plan ≡ true }
         ensures plan { plan_of result ≡ plan }
-        ensures stands { Stands result [] }
-        ensures count { taken_by result ≡ 0 }
-        ensures live { IsLive result }
+        ensures fresh { Stands result [] × (taken_by result ≡ 0) × IsLive result }
     {
         let values = PortValues {
             source: plan.plan.itm.as_slice().first().copied(),
@@ -73,7 +71,7 @@ impl Action for PortText {
 
     /// Takes a whole frame, or bytes up to a synchronisation or a fault, or packets, and puts the values among them.
     fn feed(&mut self, piece: &[u8], outlet: &mut Outlet, _notes: &mut Outlet) -> Progress {
-        self.reading.take(piece, &mut self.values, outlet)
+        self.reading.take(TURNS, piece, &mut self.values, outlet)
     }
 
     fn finish(&mut self, _outlet: &mut Outlet) {}

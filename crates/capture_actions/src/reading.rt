@@ -10,6 +10,9 @@ use source_events::{Plan, Stop};
 use source_merge::{Engine, Receiver};
 use trace_stream::Progress;
 
+/// How many turns one call takes at most, where there is room for their events.
+pub const TURNS: usize = 64;
+
 /// Reads the bytes of a capture, the first of which is at offset 0, and keeps the fault of its report.
 #[derive(Drop)]
 pub struct CaptureReading {
@@ -41,18 +44,26 @@ fn count_frames(reading: &mut Engine, piece: &[u8]) -> usize
     done
 }
 
+/// There is no fault, the piece has more bytes, and there is room for the events of another turn.
+#[inline(always)]
+fn has_more<V: Receiver>(is_faulty: bool, done: usize, piece: &[u8], out: &V, to: &V::To) -> bool
+    ensures sound { result ≡ true → is_faulty ≡ false }
+    ensures some { result ≡ true → done < length piece.now }
+    ensures space { result ≡ true → 30 ≤ V.room (out.now, to.now) }
+{
+    !is_faulty && done < piece.len() && out.events_left(to) >= 30
+}
+
 impl CaptureReading {
     ghost use Rattle.trace_io.specs.Bytes.{TakesSome};
     ghost use Rattle.source_merge.specs.Giving.{GivesTo};
-    ghost use Rattle.capture_actions.specs.CaptureReading.{Stands, plan_of, taken_by, IsLive, ReadsOn};
+    ghost use Rattle.capture_actions.specs.CaptureReading.{Stands, plan_of, taken_by, IsLive, ReadsOn, TakesOn};
 
     /// Nothing is read yet. The plan is sound.
     pub fn new(plan: Plan) -> CaptureReading
         requires sound { is_sound plan ≡ true }
         ensures plan { plan_of result ≡ plan }
-        ensures stands { Stands result [] }
-        ensures count { taken_by result ≡ 0 }
-        ensures live { IsLive result }
+        ensures fresh { Stands result [] × (taken_by result ≡ 0) × IsLive result }
     {
         CaptureReading {
             engine: Engine::new(plan),
@@ -63,8 +74,36 @@ impl CaptureReading {
     /// Takes a whole frame, or bytes up to a synchronisation or a fault, or packets, and gives their events to what
     /// takes them, which has room for 30.
     #[inline(always)]
-    pub fn take<V: Receiver>(&mut self, piece: &[u8], out: &mut V, to: &mut V::To) -> Progress
+    fn take_turn<V: Receiver>(&mut self, piece: &[u8], out: &mut V, to: &mut V::To) -> Progress
         requires live { IsLive self.old }
+        requires space { 30 ≤ V.room (out.old, to.old) }
+        requires some { 0 < length piece.now }
+        requires count { taken_by self.old + length piece.now ≤ GREATEST_CAPTURE }
+        ensures front { TakesSome piece.now result.bytes }
+        ensures took { TakesOn V.gets (self.old, (out.old, to.old)) (self.new, (out.new, to.new))
+            (take result.bytes piece.now) result.is_faulty }
+    {
+        let at = self.engine.next();
+        let fed = self.engine.take(at, piece, out, to);
+        let is_faulty = keep_stop(&mut self.stop, fed.flow);
+        Progress {
+            bytes: fed.bytes,
+            is_faulty,
+        }
+    }
+
+    /// Takes a front of the piece in at most so many turns, and gives its events to what takes them, while that has room
+    /// for 30. In each turn it takes a whole frame, or bytes up to a synchronisation or a fault, or packets.
+    #[inline(always)]
+    pub fn take<V: Receiver>(
+        &mut self,
+        turns: usize,
+        piece: &[u8],
+        out: &mut V,
+        to: &mut V::To,
+    ) -> Progress
+        requires live { IsLive self.old }
+        requires turns { 0 < turns }
         requires space { 30 ≤ V.room (out.old, to.old) }
         requires some { 0 < length piece.now }
         requires count { taken_by self.old + length piece.now ≤ GREATEST_CAPTURE }
@@ -75,12 +114,20 @@ impl CaptureReading {
             (ReadsOn self.old self.new (take result.bytes piece.now) result.is_faulty) }
         ensures live { result.is_faulty ≡ false → IsLive self.new }
     {
-        let at = self.engine.next();
-        let fed = self.engine.take(at, piece, out, to);
-        let is_faulty = keep_stop(&mut self.stop, fed.flow);
+        let mut done = 0;
+        for turn in 0..turns {
+            let taken = self.take_turn(&piece[done..], out, to);
+            done += taken.bytes;
+            if !has_more(taken.is_faulty, done, piece, out, to) {
+                return Progress {
+                    bytes: done,
+                    is_faulty: taken.is_faulty,
+                };
+            }
+        }
         Progress {
-            bytes: fed.bytes,
-            is_faulty,
+            bytes: done,
+            is_faulty: false,
         }
     }
 

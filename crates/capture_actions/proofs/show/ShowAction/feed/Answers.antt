@@ -1,42 +1,43 @@
-use Rattle.std.proofs.Common.{◌≡◌, ◌≤◌, ◌∙◌, ◌+◌, ◌-◌, ℕ, Bool, true, ap, drop, length, subst, sym, arith, take, rules}
-use Rattle.std.proofs.lemmas.List.{length-drop, length-take-le}
-use Rattle.capture_actions.specs.Feeding.{HasFed}
-use Rattle.capture_actions.specs.Show.{taken_by}
-use Rattle.capture_actions.proofs.Feeds.{fed_next}
+use Rattle.std.proofs.Common.{◌≡◌, ◌∙◌, ◌++◌, ℕ, [], List, sym, ap, subst, take}
+use Rattle.capture_actions.specs.Names.{Event, Packet, Plan, placed, report_of}
+use Rattle.capture_actions.specs.CaptureReading as readings
+use Rattle.capture_actions.specs.Filter.{plan_by, HasSeen}
+use Rattle.capture_actions.specs.LineLaws.{lines_append}
+use Rattle.capture_actions.specs.Listing.{lines_after}
+use Rattle.capture_actions.specs.Show.{plan_of}
+use Rattle.capture_actions.specs.SourceClocks.{AllStand}
+use Rattle.capture_actions.specs.declared.list_plan.ListPlan.{ListPlan}
 use Rattle.capture_actions.proofs.show.ShowAction.feed.Goals as goal
 
-pub loop-turn-preserved : goal.loop-turn-preserved
-loop-turn-preserved c =
-    let kept = c.loop-turn.invariant in
-    let one = c.take-taken.ensures in
-    let more = c.has_more.ensures in
-    let so : c.has_more.result ≡ true = search rules in
-    record {
-      within = more.some so;
-      some = (let k = one.front in let l = kept.some in omega (arith, k.some, l));
-      fed = subst (λ (f : Bool). HasFed c.args.self.now c.take-taken.new.self (take (c.loop-turn.done + c.take-taken.result.bytes) c.args.piece.now) f
-          c.args.outlet.now c.take-taken.new.outlet) (more.sound so)
-          (fed_next c.args.self.now c.loop-turn.self c.take-taken.new.self c.args.piece.now c.loop-turn.done
-          c.take-taken.result.bytes c.take-taken.result.is_faulty c.args.outlet.now c.loop-turn.outlet c.take-taken.new.outlet kept.fed one.fed);
-      room = more.room so;
-    }
+pub returns-clause-same : goal.returns-clause-same
+returns-clause-same c =
+    let old = c.args.self.now in
+    ap (λ (plan : Plan). plan_by plan c.take.new.out.filter) c.take.ensures.same
+    ∙ ap (λ (p : ListPlan). record { plan = readings.plan_of old.reading; only = p.only; window = p.window }) c.take.ensures.reads.1.asked
 
-pub returns-then-not-has_more : goal.returns-then-not-has_more
-returns-then-not-has_more c =
-    let done = c.loop-turn.done in
-    let piece = c.args.piece.now in
-    let one = c.take-taken.ensures in
-    let front = one.front in
-    let all : done + c.take-taken.result.bytes ≤ length piece =
-    (let w = c.loop-turn.invariant.within in let d = length-drop done piece in
-    let t = length-take-le (length piece - done) (drop done piece) (omega (arith, d)) in omega (arith, w, front.at_most_all, d, t)) in
-    let fed = fed_next c.args.self.now c.loop-turn.self c.take-taken.new.self piece done c.take-taken.result.bytes c.take-taken.result.is_faulty
-    c.args.outlet.now c.loop-turn.outlet c.take-taken.new.outlet c.loop-turn.invariant.fed one.fed in
+pub returns-clause-fed : goal.returns-clause-fed
+returns-clause-fed c = λ seen s.
+    let old = c.args.self.now in
+    let p = plan_of old in
+    let before = c.args.outlet.now in
+    let one = c.take.ensures in
+    let lister = c.take.new.out in
+    let next = seen ++ take c.take.result.bytes c.args.piece.now in
+    let given = one.reads.0 in
+    let put = one.reads.1 in
+    let grew = one.reads.2 seen s.reading in
+    let report = report_of p.plan (placed seen) in
+    let after = ap (λ (plan : Plan). report_of plan (placed next)) one.same ∙ grew.report in
     record {
-      same = fed.same;
-      front = record { some = omega (arith, front.some); at_most_all = all };
-      count = fed.count ∙ ap (λ (n : ℕ). taken_by c.args.self.now + n) (length-take-le (done + c.take-taken.result.bytes) piece all);
-      fed = fed.fed;
-      noted = λ seen stands. sym c.requires.silent;
-      live = fed.live;
+      read = record {
+        reading = grew.stands;
+        plan = put.kept ∙ s.plan ∙ sym one.same;
+        clocks = subst (λ (es : List (Event Packet)). AllStand lister.clocks es) (sym after) (put.clocks report s.clocks);
+        filter = subst (λ (es : List (Event Packet)). HasSeen lister.filter es) (sym after) (put.seen report s.filter);
+      };
+      more = lines_after p report given;
+      grown = ap (lines_after p []) grew.report ∙ lines_append p [] report given;
+      gained = put.text report report s.clocks s.filter
+          ∙ ap (λ (plan : Plan). before ++ lines_after (plan_by plan old.lister.filter) report given) s.plan;
+      fault = grew.fault;
     }
