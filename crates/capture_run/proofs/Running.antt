@@ -113,15 +113,15 @@ module _ {Plan : Type 0} (meaning : Plan → Meaning) (noted_by : Plan → List 
       ap (λ (l : List ℕ). noted fed ++ l) text ∙ ap (λ (l : List ℕ). noted l ++ f l) is
 
   -- at the end of the input
-  pub run_done : (s : Served AtEnd) (note : List ℕ) → Adds note → (notes now).late s.fed ≡ false →
-      note ≡ (notes now).done_note s.fed → Ran Done
-  run_done s note adds late text =
-      ran AtEnd s Done note adds (
+  pub run_done : (status : Status) (s : Served AtEnd) (note : List ℕ) → status ≡ Done → Adds note →
+      (notes now).late s.fed ≡ false → note ≡ (notes now).done_note s.fed → Ran status
+  run_done status s note is adds late text =
+      subst Ran (sym is) (ran AtEnd s Done note adds (
         s.outcome,
         s.ended refl,
         sym (ap (notes now).late s.feeds) ∙ late,
         said (notes now).done_note s.fed s.bytes note s.feeds text,
-      )
+      ))
 
   -- where a read failed, and where a write failed
   pub run_read_failed : Served ReadFailed → Adds (codes "read fault\n") → Ran ReadFault

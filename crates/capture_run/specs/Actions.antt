@@ -134,14 +134,21 @@ unring_notes plan = record {
 abbrev pub going_on : {P : Type 0} → P → Bool → GoingOn P
 going_on plan guesses = record { plan = plan; guesses = guesses }
 
--- A listing, up to a capture's first fault, or over all its faults. Here and below, where reading goes on it is said
--- whether guesses are told.
+-- What is made of a capture up to its first fault, or over all its faults: where reading goes on it is said whether
+-- guesses are told.
+abbrev pub stopping_or_going : Option Bool → TaskMeaning → (Bool → TaskMeaning) → TaskMeaning
+stopping_or_going None stopping going = stopping
+stopping_or_going (Some guesses) stopping going = going guesses
+
+-- a listing over all faults
 abbrev pub listing_on : GoingOn ListPlan → TaskMeaning
 listing_on on = task_of (listing_meaning on) nothing (recovered_notes on.plan.plan)
 
+-- a listing
 abbrev pub showing : Option Bool → ListPlan → TaskMeaning
-showing None p = task_of (show_meaning p) nothing (captured last_note)
-showing (Some guesses) p = listing_on (going_on p guesses)
+showing recover p =
+    stopping_or_going recover (task_of (show_meaning p) nothing (captured last_note))
+    (λ guesses. listing_on (going_on p guesses))
 
 -- A summary up to a capture's first fault, and one over all its faults, with the counts of kinds or without. No guess
 -- is counted.
@@ -151,18 +158,23 @@ checking None true plan = task_of (kinds_meaning plan) nothing (captured last_no
 checking (Some guesses) false plan = task_of (recovering_summary.check_meaning plan) nothing (recovered_notes plan)
 checking (Some guesses) true plan = task_of (kinds_meaning_on plan) nothing (recovered_notes plan)
 
--- the text of a stimulus port, up to a capture's first fault, or over all its faults, which are notes
+-- the text of a stimulus port; the faults that reading goes on after are notes
+abbrev pub text_on : GoingOn PortTextPlan → TaskMeaning
+text_on on = task_of (recovering_text.port_text_meaning on) (noted_text on) (recovered_notes on.plan.plan)
+
 abbrev pub texting : Option Bool → PortTextPlan → TaskMeaning
-texting None p = task_of (port_text_meaning p) nothing (captured (report_note p.plan))
-texting (Some guesses) p =
-    let on = going_on p guesses in
-    task_of (recovering_text.port_text_meaning on) (noted_text on) (recovered_notes p.plan)
+texting recover p =
+    stopping_or_going recover (task_of (port_text_meaning p) nothing (captured (report_note p.plan)))
+    (λ guesses. text_on (going_on p guesses))
 
 -- and a value dump
+abbrev pub dump_on : GoingOn VcdPlan → TaskMeaning
+dump_on on = task_of (dump_meaning on) (noted_dump on) (recovered_notes on.plan.plan)
+
 abbrev pub dumping : Option Bool → VcdPlan → TaskMeaning
-dumping None p = task_of (vcd_meaning p) nothing (captured (report_note p.plan))
-dumping (Some guesses) p =
-    let on = going_on p guesses in task_of (dump_meaning on) (noted_dump on) (recovered_notes p.plan)
+dumping recover p =
+    stopping_or_going recover (task_of (vcd_meaning p) nothing (captured (report_note p.plan)))
+    (λ guesses. dump_on (going_on p guesses))
 
 -- the writing of a script's capture
 abbrev pub rebuilding : RebuildPlan → TaskMeaning

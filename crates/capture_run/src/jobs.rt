@@ -11,7 +11,7 @@ ghost use Rattle.capture_run.specs.Run.{HasRun, IsCaused, task_of, streams};
 use crate::actions::CommandAction;
 use crate::exercise::run_exercise;
 use crate::notes::{note, note_done, note_fault, note_over};
-use crate::reading::{CheckPlan, Reading};
+use crate::reading::{run_check, run_reading};
 use crate::status::Status;
 use capture_actions::{ListPlan, PortTextPlan, Realign, Ring, Split, SplitPlan, Unring};
 use capture_words::{Job, Task};
@@ -64,8 +64,7 @@ pub fn run_action<A: CommandAction + Drop, I: Source, O: Sink, N: Sink>(
             if ending.is_late {
                 note_fault(notes, &ending.fault, buffers)
             } else {
-                note_done(notes, ending.done);
-                Status::Done
+                note_done(notes, ending.done)
             }
         }
         Outcome::FaultFound => note_fault(notes, &action.ending().fault, buffers),
@@ -121,7 +120,9 @@ fn run_task<I: Source, O: Sink, N: Sink>(
             recover,
         } => {
             let listing = ListPlan { plan, only, window };
-            listing.run(alloc, buffers, recover, limit, input, output, notes)
+            run_reading(
+                listing, alloc, buffers, recover, limit, input, output, notes,
+            )
         }
         Task::Split { frames, id } => {
             let opened = Ok(Split::new(SplitPlan { frames, id }));
@@ -133,20 +134,17 @@ fn run_task<I: Source, O: Sink, N: Sink>(
             recover,
         } => {
             let text = PortTextPlan { plan, port };
-            text.run(alloc, buffers, recover, limit, input, output, notes)
+            run_reading(text, alloc, buffers, recover, limit, input, output, notes)
         }
         Task::Vcd { plan, hz, recover } => {
             let dump = VcdPlan { plan, hz };
-            dump.run(alloc, buffers, recover, limit, input, output, notes)
+            run_reading(dump, alloc, buffers, recover, limit, input, output, notes)
         }
         Task::Check {
             plan,
             recover,
             kinds,
-        } => {
-            let check = CheckPlan { plan, kinds };
-            check.run(alloc, buffers, recover, limit, input, output, notes)
-        }
+        } => run_check(plan, kinds, buffers, recover, limit, input, output, notes),
         Task::Rebuild { plan, sync, half } => {
             let opened = Rebuild::through(alloc, script_plan(plan, sync, half, None));
             run_action(buffers, opened, limit, input, output, notes)

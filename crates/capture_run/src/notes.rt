@@ -120,11 +120,12 @@ pub fn note_over<N: Sink>(notes: &mut N, fault: FaultNote, limit: u64) -> Status
     Status::Limit
 }
 
-/// Notes what is told of a run that is done.
-pub fn note_done<N: Sink>(notes: &mut N, done: DoneNote)
+/// Notes what is told of a run that is done, and answers that it is.
+pub fn note_done<N: Sink>(notes: &mut N, done: DoneNote) -> Status
     ensures noted { Notes (N.held notes.old) (N.held notes.new) (N.faults notes.old) (N.faults notes.new)
         (done_text done) }
     ensures later { N.faults notes.old ≤ N.faults notes.new }
+    ensures status { result ≡ Status.Done }
 {
     match done {
         DoneNote::Nothing => {}
@@ -155,4 +156,5 @@ pub fn note_done<N: Sink>(notes: &mut N, done: DoneNote)
             note_text(notes, &line);
         }
     }
+    Status::Done
 }

@@ -29,8 +29,8 @@ returns-in-AtEnd-clause-ran g c = λ p opened.
     let mid : Noted = told (g.N.Sink.held c.serve-outcome.new.notes) (g.N.Sink.faults c.serve-outcome.new.notes) in
     run_done g.A.Action.meaning g.A.Action.noted g.A.CommandAction.notes _ _ p c.serve-outcome.ensures.same
     (IfOk-at_ok _ c.in-Ok.is opened) _ _ _ mid c.serve-outcome.new.buffers.recent _
-    c.note_done.ensures.later k _ c.note_done.ensures.noted (sym (e.late k.fed k.holds.read) ∙ c.if-ending.false)
-    (e.done k.fed k.holds.read)
+    c.note_done.ensures.later _ k _ c.note_done.ensures.status c.note_done.ensures.noted
+    (sym (e.late k.fed k.holds.read) ∙ c.if-ending.false) (e.done k.fed k.holds.read)
 
 pub returns-in-FaultFound-clause-ran : goal.returns-in-FaultFound-clause-ran
 returns-in-FaultFound-clause-ran g c = λ p opened.
