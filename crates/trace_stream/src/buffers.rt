@@ -7,7 +7,7 @@ use crate::recent::{RECENT_ROOM, Recent};
 use std::alloc::{AllocError, Global};
 use std::marker::Model;
 
-/// All the memory of a run: a read buffer of 4,096 bytes, an outlet, the last bytes that were fed, and an outlet of
+/// All the memory of a run: a read buffer of 16,384 bytes, an outlet, the last bytes that were fed, and an outlet of
 /// notes, in which nothing is pending between calls.
 /// Contracts see the bytes that are still to be written, as `pending`, and those last bytes, as
 /// `recent`.
@@ -27,7 +27,7 @@ impl Model for Buffers {
 
     ghost view = { λ b. record { pending = b.outlet; recent = b.recent } };
 
-    ghost invariant = { λ b. (length b.input.items ≡ 4096) × (b.lines ≡ []) };
+    ghost invariant = { λ b. (length b.input.items ≡ 16384) × (b.lines ≡ []) };
 }
 
 impl Buffers {
@@ -36,7 +36,7 @@ impl Buffers {
     pub fn open(alloc: Global) -> Result<Buffers, AllocError>
         ensures { IfOk result (λ b. (b.pending ≡ []) × (b.recent ≡ [])) }
     {
-        let input = vec![in alloc; 0; 4096]?;
+        let input = vec![in alloc; 0; 16384]?;
         let outlet = Outlet::open(alloc)?;
         let recent = Recent::open(alloc)?;
         let lines = Outlet::open(alloc)?;

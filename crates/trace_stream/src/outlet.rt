@@ -12,7 +12,7 @@ use std::marker::Model;
 use trace_io::{Failed, Sink, write_whole};
 
 /// Bytes that an outlet holds at most.
-pub const OUTLET_ROOM: usize = 8192;
+pub const OUTLET_ROOM: usize = 32768;
 
 /// Bytes of room that a text is given. That is more than any text has: a text may write past its end.
 pub const TEXT_ROOM: usize = 160;
