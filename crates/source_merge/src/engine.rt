@@ -310,8 +310,8 @@ impl Engine {
             (GivesLast self.old at (take result.bytes piece.now) result.flow) }
     {
         if self.port.is_between() {
-            if let Some(frame) = place_frame(at, piece) {
-                let flow = self.take_gathered(&frame, out, to);
+            if let Some(frame) = &place_frame(at, piece) {
+                let flow = self.take_gathered(frame, out, to);
                 return Fed {
                     bytes: frame.size(),
                     flow,

@@ -1,4 +1,5 @@
 use Rattle.std.proofs.Common.{◌≡◌, ℕ, ◌+◌, ◌*◌, ◌++◌, [], take, sym, subst, arith}
+use Rattle.std.proofs.lemmas.Option.{MatchOption-at_some}
 use Rattle.frame_grammar.proofs.Wholes.{whole_proper}
 use Rattle.frame_runs.specs.Gathered.{IsGathered, frame_places}
 use Rattle.source_merge.specs.Names.{FedAs, placed_from, offsets_of, without_halves}
@@ -11,7 +12,7 @@ use Rattle.source_merge.proofs.engine.Engine.take_framed.Goals as goal
 pub take_gathered-flow-requires-clause-proper : goal.take_gathered-flow-requires-clause-proper
 take_gathered-flow-requires-clause-proper g c =
     let frame = c.in-Some.frame in
-    whole_proper (take (16 + 2 * frame.halves) c.args.piece.now) frame.bytes frame.halves c.in-Some.ensures.whole
+    whole_proper (take (16 + 2 * frame.halves) c.args.piece.now) frame.bytes frame.halves (MatchOption-at_some _ _ _ c.in-Some.is c.place_frame.ensures.whole)
 
 -- the frame is gathered from the bytes that it takes
 gathered : (g : bound.Over) → (c : goal.After-size g) →
@@ -20,10 +21,10 @@ gathered g c =
     let frame = c.in-Some.frame in
     let bytes = take (16 + 2 * frame.halves) c.args.piece.now in
     record {
-      whole = c.in-Some.ensures.whole;
+      whole = MatchOption-at_some _ _ _ c.in-Some.is c.place_frame.ensures.whole;
       offsets =
           subst (λ (at : ℕ). frame_places frame ≡ offsets_of (without_halves (placed_from at bytes)))
-          (sym c.in-Some.ensures.at) c.in-Some.ensures.offsets;
+          (sym (MatchOption-at_some _ _ _ c.in-Some.is c.place_frame.ensures.at)) (MatchOption-at_some _ _ _ c.in-Some.is c.place_frame.ensures.offsets);
     }
 
 pub returns-in-Some-clause-takes : goal.returns-in-Some-clause-takes
@@ -33,8 +34,8 @@ returns-in-Some-clause-takes g c =
     let new = c.take_gathered-flow.new.self in
     let took = c.take_gathered-flow.ensures.takes in
     let size = c.size.ensures in
-    let room = c.in-Some.ensures.room in
-    let at_is = c.in-Some.ensures.at in
+    let room = MatchOption-at_some _ _ _ c.in-Some.is c.place_frame.ensures.room in
+    let at_is = MatchOption-at_some _ _ _ c.in-Some.is c.place_frame.ensures.at in
     record {
       same = took.same;
       bytes = (omega (arith, size), omega (arith, size, room));
@@ -58,5 +59,5 @@ returns-in-Some-clause-fed g c =
       λ u h.
           subst (λ (n : ℕ). FedAs (Answers plan [] Going) last u c.args.at (take n piece)) (sym c.size.ensures)
           (subst (λ (at : ℕ). FedAs (Answers plan [] Going) last u at (take (16 + 2 * frame.halves) piece))
-          c.in-Some.ensures.at (fed.2 u (take (16 + 2 * frame.halves) piece) h (gathered g c))),
+          (MatchOption-at_some _ _ _ c.in-Some.is c.place_frame.ensures.at) (fed.2 u (take (16 + 2 * frame.halves) piece) h (gathered g c))),
     )
