@@ -5,8 +5,10 @@ ghost use Rattle.capture_actions.specs.Names.{Event, Packet, is_item};
 ghost use Rattle.capture_actions.specs.Listing.{meets, is_within, is_listed};
 ghost use Rattle.capture_actions.specs.Filter.{SawAll, bounds_in, wants};
 ghost use Rattle.capture_actions.specs.Guesses.{is_open};
+ghost use Rattle.item_tap.specs.declared.content.Content.TheVariants.{Itm};
 
 use item_tap::{Bounds, ChoiceWindow, Choices, Content};
+use itm_grammar::packet::ItmPacket;
 use source_events::{Event, Packet, What};
 use trace_values::SourceId;
 
@@ -82,6 +84,18 @@ impl Filter {
         ensures { IsTrue result ↔ (self.now.window ≡ None) }
     {
         self.window.is_none()
+    }
+
+    /// Whether this packet of a source meets one of the choices, if there are any. It is what `wants` answers, and the
+    /// packet is in memory only where there are.
+    #[inline(always)]
+    pub fn wants_itm(&self, source: SourceId, packet: &ItmPacket) -> bool
+        ensures { result ≡ wants self.now.only (Some source) (Itm packet.now) }
+    {
+        match &self.only {
+            None => true,
+            Some(choices) => hold_in(choices, source, Content::Itm(*packet)),
+        }
     }
 
     /// Whether this, which a source gives, meets one of the choices, if there are any.

@@ -257,7 +257,7 @@ impl Lister {
             (self.new, outlet.new) }
         ensures bound { length outlet.new ≤ length outlet.old + EVENT_ROOM }
     {
-        if self.filter.wants(source, Content::Itm(packet)) {
+        if self.filter.wants_itm(source, &packet) {
             put_itm_line(
                 outlet,
                 &mut self.digits,
