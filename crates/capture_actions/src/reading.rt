@@ -92,8 +92,8 @@ impl CaptureReading {
         }
     }
 
-    /// Takes a front of the piece in at most so many turns, and gives its events to what takes them, while that has room
-    /// for 30. In each turn it takes a whole frame, or bytes up to a synchronisation or a fault, or packets.
+    /// Takes a front of the piece in at most so many turns, and gives its events to what takes them, while that has
+    /// room for 30. In each turn it takes a whole frame, or bytes up to a synchronisation or a fault, or packets.
     #[inline(always)]
     pub fn take<V: Receiver>(
         &mut self,
@@ -105,8 +105,7 @@ impl CaptureReading {
         requires live { IsLive self.old }
         requires turns { 0 < turns }
         requires space { 30 ≤ V.room (out.old, to.old) }
-        requires some { 0 < length piece.now }
-        requires count { taken_by self.old + length piece.now ≤ GREATEST_CAPTURE }
+        requires piece { (0 < length piece.now) × (taken_by self.old + length piece.now ≤ GREATEST_CAPTURE) }
         ensures same { plan_of self.new ≡ plan_of self.old }
         ensures front { TakesSome piece.now result.bytes }
         ensures count { taken_by self.new ≡ taken_by self.old + result.bytes }

@@ -146,8 +146,8 @@ impl CommandOption {
             ),
             CommandOption::Recover => (
                 "recover",
-                "Whether show, check, text and vcd go on after a fault, at the next synchronisation: off (the default), on, \
-                or near, which tells what a source may have said until then, too",
+                "Whether show, check, text and vcd go on after a fault, at the next synchronisation: off (the \
+                default), on, or near, which tells what a source may have said until then, too",
             ),
             CommandOption::Size => (
                 "size",

@@ -1,6 +1,7 @@
 -- The pairs of a frame at which its runs end: pair k has the bytes at 2k and 2k + 1, and names a source by bit 0 of the
 -- first.
-use Rattle.std.specs.Prelude.{ℕ, ◌+◌, ◌-◌, ◌*◌, ◌/◌, ◌%◌, ◌^◌, ◌==◌, ◌||◌, Bool, nat_lt, if◌then◌else◌, List, slice_index}
+use Rattle.std.specs.Prelude.{ℕ, ◌+◌, ◌-◌, ◌*◌, ◌/◌, ◌%◌, ◌^◌, ◌==◌, ◌||◌, Bool, nat_lt, if◌then◌else◌, List}
+use Rattle.std.specs.Prelude.{slice_index}
 use Rattle.std.specs.List.{filter, range_with_len}
 use Rattle.frame_grammar.specs.Frame.{aux_bit, names}
 use Rattle.frame_runs.specs.declared.pairs.RunEnds.{RunEnds}

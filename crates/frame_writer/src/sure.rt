@@ -169,9 +169,9 @@ impl SureWriter {
         }
     }
 
-    /// Ends the segment, and appends what has become sure, for which there is room: what is kept back, and the unfinished
-    /// frame with null bytes after its last byte, at most 132 bytes. Then nothing is kept back, and all that is written
-    /// so far is sure.
+    /// Ends the segment, and appends what has become sure, for which there is room: what is kept back, and the
+    /// unfinished frame with null bytes after its last byte, at most 132 bytes. Then nothing is kept back, and all that
+    /// is written so far is sure.
     pub fn flush<const N: usize>(&mut self, out: &mut ArrayVec<u8, N>)
         requires count { count_of self.old < COUNT_ROOM }
         requires room { array_vec_len out.old + held_by self.old + 132 ≤ N }

@@ -240,10 +240,10 @@ impl FrameWriter {
         }
     }
 
-    /// Ends the segment: appends the unfinished frame, if one is begun or a byte is held, with null bytes after the last
-    /// byte and with its synchronisations, at most 132 bytes. Where no byte was put since the last flush, or the last
-    /// byte completed its frame, nothing is appended. The next byte begins a frame; the frames' numbers go on, and so does
-    /// the ID in force.
+    /// Ends the segment: appends the unfinished frame, if one is begun or a byte is held, with null bytes after the
+    /// last byte and with its synchronisations, at most 132 bytes. Where no byte was put since the last flush, or the
+    /// last byte completed its frame, nothing is appended. The next byte begins a frame; the frames' numbers go on, and
+    /// so does the ID in force.
     ///
     /// `out` is empty, and fewer than `COUNT_ROOM` frames have been appended.
     pub fn flush(&mut self, out: &mut ArrayVec<u8, 264>)

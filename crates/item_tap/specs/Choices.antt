@@ -6,10 +6,12 @@ use Rattle.dwt_packets.specs.declared.item.DwtItem.{DwtItem}
 use Rattle.dwt_packets.specs.declared.item.DwtItem.TheVariants.{MatchPc, MatchAddress, Read, Written}
 use Rattle.dwt_packets.specs.Table.{name}
 use Rattle.itm_grammar.specs.declared.packet.ItmPacket.{ItmPacket}
-use Rattle.itm_grammar.specs.declared.packet.ItmPacket.TheVariants.{Software, Hardware, Local, GlobalFirst, GlobalSecond}
+use Rattle.itm_grammar.specs.declared.packet.ItmPacket.TheVariants.{Software, Hardware, Local, GlobalFirst}
+use Rattle.itm_grammar.specs.declared.packet.ItmPacket.TheVariants.{GlobalSecond}
 use Rattle.source_events.specs.declared.event.Event.{Event}
 use Rattle.source_events.specs.declared.event.What.{What}
-use Rattle.source_events.specs.declared.event.What.TheVariants.{Locked, Packet as Given, Raw as Bytes, Trigger as TriggerByte}
+use Rattle.source_events.specs.declared.event.What.TheVariants.{Locked, Packet as Given, Raw as Bytes}
+use Rattle.source_events.specs.declared.event.What.TheVariants.{Trigger as TriggerByte}
 use Rattle.source_events.specs.declared.packet.Packet.{Packet}
 use Rattle.source_events.specs.declared.packet.Packet.TheVariants.{Itm as ItmKind, Stp as StpKind}
 use Rattle.source_events.specs.Merge.{is_of}
@@ -18,7 +20,8 @@ use Rattle.item_tap.specs.declared.choice.Choice.TheVariants.{OfKind, Source, Po
 use Rattle.item_tap.specs.declared.choice.Kind.{Kind}
 use Rattle.item_tap.specs.declared.choice.Kind.TheVariants.{Itm, Dwt, Stp, Raw, Trigger}
 use Rattle.item_tap.specs.declared.content.Content.{Content}
-use Rattle.item_tap.specs.declared.content.Content.TheVariants.{Notice, Itm as OfItm, Stp as OfStp, Raw as OfRaw, Trigger as OfTrigger}
+use Rattle.item_tap.specs.declared.content.Content.TheVariants.{Notice, Itm as OfItm, Stp as OfStp, Raw as OfRaw}
+use Rattle.item_tap.specs.declared.content.Content.TheVariants.{Trigger as OfTrigger}
 
 -- what choices see of what an event tells
 abbrev pub content_of : What Packet → Content

@@ -279,8 +279,8 @@ impl ItmDecoder {
         self.take_slowly(bytes)
     }
 
-    /// Takes these bytes in a hunt, wherever they are, up to the first that ends its pattern, or all of them. Answers how
-    /// many it took. They give nothing.
+    /// Takes these bytes in a hunt, wherever they are, up to the first that ends its pattern, or all of them. Answers
+    /// how many it took. They give nothing.
     #[inline(never)]
     pub fn skip_part(&mut self, bytes: &[u8]) -> usize
         requires live { is_live self.old ≡ true }

@@ -9,8 +9,8 @@ use crate::whole::WINDOW;
 /// Bit 7 of each byte after the first.
 const CONTINUED: u64 = 0x8080_8080_8080_8000;
 
-/// The first `count` of these bytes are within a packet: a second global timestamp, each of whose payload bytes says that
-/// another follows, or bytes 00 of a synchronisation. Of longer ones, and of other packets, it does not tell.
+/// The first `count` of these bytes are within a packet: a second global timestamp, each of whose payload bytes says
+/// that another follows, or bytes 00 of a synchronisation. Of longer ones, and of other packets, it does not tell.
 #[inline(always)]
 pub fn is_front(window: &[u8; WINDOW], count: usize) -> bool
     ensures { result ≡ true → (count ≤ 7) × IsFrontOf window.now count }

@@ -1,5 +1,5 @@
-//! The bytes 00 of synchronisation packets of any length (ARMv7-M Architecture Reference Manual, Arm DDI 0403E, appendix D4 'Debug ITM
-//! and DWT Packet Protocol', section D4.2 'Packet descriptions').
+//! The bytes 00 of synchronisation packets of any length (ARMv7-M Architecture Reference Manual, Arm DDI 0403E,
+//! appendix D4 'Debug ITM and DWT Packet Protocol', section D4.2 'Packet descriptions').
 
 ghost use Rattle.std.specs.Prelude.{◌≡◌, ◌≤◌, length, replicate, take};
 

@@ -84,8 +84,8 @@ placed_part Three at = port.Three
 abbrev pub state : ℕ → List Placed → ℕ → Part → ℕ → State
 state left bytes halves part at = record { left = left; bytes = bytes; halves = halves; part = placed_part part at }
 
--- what is there of an item: the halfwords left, the frame's bytes, the half synchronisations between them, the part, and
--- the offset of its first byte
+-- what is there of an item: the halfwords left, the frame's bytes, the half synchronisations between them, the part,
+-- and the offset of its first byte
 pub record Begun : Type 0 where
   pub left : ℕ
   pub bytes : List Placed

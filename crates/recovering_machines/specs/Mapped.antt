@@ -56,8 +56,8 @@ with_run s r cells = runs.with_run s.sure r cells
 abbrev pub total_of : MappedSource → ℕ
 total_of s = source.total_of s.sure + guess_total s.guess
 
--- These cells were taken, and what they say was given, as events of this source. Their offsets rise, and are after those
--- of the stretches.
+-- These cells were taken, and what they say was given, as events of this source. Their offsets rise, and are after
+-- those of the stretches.
 pub record TakesMapped {S : Type 0} (gets : S → List (Event (Heard Packet)) → S → Type 0) (room : S → ℕ) (id : ℕ)
     (cells : List Cell) (old new : MappedSource) (before after : S) : Type 0 where
   pub kind : kind_of new ≡ kind_of old

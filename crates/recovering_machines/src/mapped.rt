@@ -142,7 +142,8 @@ impl MappedSource {
         self.guesses && self.guess.is_reading()
     }
 
-    /// Takes packets of a run that are found from this index on, where nothing is read on. Answers the index after them.
+    /// Takes packets of a run that are found from this index on, where nothing is read on. Answers the index after
+    /// them.
     #[inline(always)]
     fn take_found<R: Run, V: Hearer>(
         &mut self,

@@ -58,8 +58,8 @@ fn hunts(packets: PacketsMode) -> bool
     }
 }
 
-/// The byte with which a hunt begins that begins at this half of a byte. Machines read whole bytes: so a low nibble that
-/// is not the hunt's is made 0, over which every hunt passes, since its pattern begins with F.
+/// The byte with which a hunt begins that begins at this half of a byte. Machines read whole bytes: so a low nibble
+/// that is not the hunt's is made 0, over which every hunt passes, since its pattern begins with F.
 fn first_byte(machine: &SourceMachine, half: u8, byte: u8) -> FirstByte
     ensures { BeginsHunt (kind_on machine.now) half byte result }
 {

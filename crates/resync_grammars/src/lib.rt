@@ -1,4 +1,5 @@
-//! Lost fronts of a port's bytes and of a source's: where a synchronisation is, and what a hunt in the rest of them reads.
+//! Lost fronts of a port's bytes and of a source's: where a synchronisation is, and what a hunt in the rest of them
+//! reads.
 #![tactic(auto)]
 
 pub mod port_laws;

@@ -10,7 +10,8 @@ ghost use Rattle.stp_grammar.specs.declared.item.StpItem.TheVariants.{Async as A
 ghost use Rattle.stp_grammar.specs.Spelling as stp_spelling;
 ghost use Rattle.resync_grammars.specs.Stp.{OnlyInAsync};
 ghost use Rattle.resync_grammars.specs.Itm.{hunting};
-ghost use Rattle.resync_grammars.specs.SourceRows.{itm_whole, itm_left, stp_whole, stp_left, given_of, end_of, has_no_master};
+ghost use Rattle.resync_grammars.specs.SourceRows.{itm_whole, itm_left, stp_whole, stp_left, given_of, end_of};
+ghost use Rattle.resync_grammars.specs.SourceRows.{has_no_master};
 ghost use Rattle.resync_grammars.specs.SourceRows.{ones, two_versions};
 
 /// A packet with a payload of four bytes, a synchronisation packet and an overflow packet, whole and without the first

@@ -29,9 +29,10 @@ pub fn nothing_of_a_port()
     ensures port { from_port itm_plan 21 packets_in_frames ≡ [] }
 {}
 
-/// What the laws do not say, since it is not so. Of the first row's rest, read from its first byte on and not hunted, the
-/// reading has a fault. And from the port's own point on the whole has packets that the rest has not, which are before the
-/// source's point. (That an STP item before the first VERSION may have another place is in the row of an STP source.)
+/// What the laws do not say, since it is not so. Of the first row's rest, read from its first byte on and not hunted,
+/// the reading has a fault. And from the port's own point on the whole has packets that the rest has not, which are
+/// before the source's point. (That an STP item before the first VERSION may have another place is in the row of an STP
+/// source.)
 pub fn neighbours()
     ensures not_hunted { stop_of itm_plan 1 packets_in_frames ≡ Some (2, BadSync) }
     ensures from_the_port { from_port itm_plan 1 packets_in_frames ≡

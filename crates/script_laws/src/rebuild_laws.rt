@@ -21,8 +21,8 @@ pub fn lines_law()
 
 /// What the lines of a script are rebuilt to, or those before its first fault and its first line without a place, reads
 /// back as exactly what they give each source, in whatever order the lines of the sources are, wherever they are
-/// flushed, and straight or through a funnel: from the first byte on, with the same mapped sources and the same order of
-/// nibbles.
+/// flushed, and straight or through a funnel: from the first byte on, with the same mapped sources and the same order
+/// of nibbles.
 pub fn rebuild_law()
     ensures { (p : RebuildPlan) (script : List ℕ) → is_sound p.plan ≡ true → IsFair p.funnel →
         ReadsAsGiven p.plan (routed_script p script).lines (rebuilt p (routed_script p script).lines) }

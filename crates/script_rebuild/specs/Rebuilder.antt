@@ -53,8 +53,8 @@ pub record HasMoved (old new : Rebuild) (bytes : ℕ) : Type 0 where
 abbrev pub open_len : Rebuild → ℕ
 open_len r = length r.line.items
 
--- While it reads, it keeps the first fault of these bytes, its writer stands for the lines before it, and while there is
--- none it keeps the open line, counts the lines before, and knows what they tell of the version.
+-- While it reads, it keeps the first fault of these bytes, its writer stands for the lines before it, and while there
+-- is none it keeps the open line, counts the lines before, and knows what they tell of the version.
 pub record Reads (r : Rebuild) (seen : List ℕ) : Type 0 where
   pub count : r.count ≡ length seen
   pub fault : option_map told r.fault ≡ (routed_so_far r.plan seen).fault

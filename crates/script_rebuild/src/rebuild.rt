@@ -74,8 +74,8 @@ fn append(line: &mut ArrayVec<u8, LINE_BYTES>, bytes: &[u8])
     let _ = line.try_extend_from_slice(bytes);
 }
 
-/// What a line says whose words are those of no line of version 1: nothing as the header, or a line of version 2. Apart,
-/// so that lines of version 1 need no room for it.
+/// What a line says whose words are those of no line of version 1: nothing as the header, or a line of version 2.
+/// Apart, so that lines of version 1 need no room for it.
 #[inline(never)]
 fn read_later(version: Version, text: &[u8]) -> Result<Line2, LineFault>
     ensures said { (plan : Plan) (lines : List Line2) → line_of plan text.now ≡ Err BadLine →

@@ -51,8 +51,8 @@ impl LineWriter {
     ghost use Rattle.script_rebuild.specs.Writer.{stp_of, order_of, turns_of, kept_by, count_of, debt_of, HasRoom};
     ghost use Rattle.script_rebuild.specs.Writer.{CanBePut, CanBePut2, HasSources, Stands};
 
-    /// A writer of no line, over a formatter that was given nothing. The items of system traces are those of the sources
-    /// `stp`, and their numbers are written in this order of their nibbles.
+    /// A writer of no line, over a formatter that was given nothing. The items of system traces are those of the
+    /// sources `stp`, and their numbers are written in this order of their nibbles.
     pub fn new(stp: &SourceIds, order: Order, formatter: Formatter) -> LineWriter
         ensures fresh { (port : Port) → formatters.Stands formatter port no_segments → Stands result port [] }
         ensures stp { stp_of result ≡ in_order stp.now }
@@ -88,14 +88,14 @@ impl LineWriter {
         }
     }
 
-    /// Puts a line of version 1, and keeps what has become sure of the capture: all frames of ended segments, and of the
-    /// unfinished one all but the last that is begun.
+    /// Puts a line of version 1, and keeps what has become sure of the capture: all frames of ended segments, and of
+    /// the unfinished one all but the last that is begun.
     ///
     /// # Errors
     ///
     /// `Unfit` exactly where the line is an item of a system trace that can't be written after the lines before, and
-    /// else `Unrouted` exactly where a funnel is before the port and has no place for the line's source: then the writer
-    /// is as before.
+    /// else `Unrouted` exactly where a funnel is before the port and has no place for the line's source: then the
+    /// writer is as before.
     #[inline(always)]
     pub fn put(&mut self, line: &Line) -> Result<(), LineFault>
         requires said { CanBePut (stp_of self.old) line.now }

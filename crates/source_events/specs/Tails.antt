@@ -4,10 +4,12 @@ use Rattle.std.specs.List.{count_by, flat_map, range_with_len}
 use Rattle.trace_values.specs.declared.limits.TheConstants.{ID_COUNT}
 use Rattle.trace_values.specs.Placed.{Placed}
 use Rattle.trace_values.specs.declared.reading_modes.FramesMode.{FramesMode}
-use Rattle.trace_values.specs.declared.reading_modes.FramesMode.TheVariants.{Hunt as FramesHunt, Aligned as FramesAligned}
+use Rattle.trace_values.specs.declared.reading_modes.FramesMode.TheVariants.{Hunt as FramesHunt}
+use Rattle.trace_values.specs.declared.reading_modes.FramesMode.TheVariants.{Aligned as FramesAligned}
 use Rattle.trace_values.specs.declared.reading_modes.FramesMode.TheVariants.{Bare as FramesBare}
 use Rattle.trace_values.specs.declared.reading_modes.PacketsMode.{PacketsMode}
-use Rattle.trace_values.specs.declared.reading_modes.PacketsMode.TheVariants.{Hunt as PacketsHunt, Aligned as PacketsAligned}
+use Rattle.trace_values.specs.declared.reading_modes.PacketsMode.TheVariants.{Hunt as PacketsHunt}
+use Rattle.trace_values.specs.declared.reading_modes.PacketsMode.TheVariants.{Aligned as PacketsAligned}
 use Rattle.deformatter.specs.PortReading.{PortReading, port_reading}
 use Rattle.source_counts.specs.Counts.{bytes_of, unattributed_of}
 use Rattle.source_counts.specs.declared.counts.Counts.{Counts}

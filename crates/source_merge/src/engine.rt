@@ -445,8 +445,8 @@ impl Engine {
         self.next = at + bytes;
     }
 
-    /// How many bytes a source has, and how many events without notices. At a fault these are the bytes of all frames up
-    /// to the one that the fault is in, and the events before it.
+    /// How many bytes a source has, and how many events without notices. At a fault these are the bytes of all frames
+    /// up to the one that the fault is in, and the events before it.
     pub fn counts(&self, id: SourceId) -> Counts
         ensures value { (u : List Placed) → Stands self.now u → result ≡ source_counts_of (plan_of self.now) u id }
         ensures few { (result.bytes ≤ GREATEST_COUNT) × (result.items ≤ GREATEST_COUNT) }

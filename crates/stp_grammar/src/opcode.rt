@@ -19,8 +19,8 @@ macro_rules! datum {
     };
 }
 
-/// The table, with the standard's names beside it: what `of!` takes from each line, in their order. A line is a row, the
-/// nibbles of its opcode, how many its payload has, and whether a timestamp follows.
+/// The table, with the standard's names beside it: what `of!` takes from each line, in their order. A line is a row,
+/// the nibbles of its opcode, how many its payload has, and whether a timestamp follows.
 macro_rules! each_line {
     ($of:ident) => {
         &[

@@ -60,8 +60,8 @@ abbrev pub counts : ℕ → ℕ → ℕ → Counts
 counts empty_reads read_faults write_faults =
     record { empty_reads = empty_reads; read_faults = read_faults; write_faults = write_faults }
 
--- at most one read gave no byte, no count of faults fell, and a run fails only where a count of faults rose or is at its
--- last value
+-- at most one read gave no byte, no count of faults fell, and a run fails only where a count of faults rose or is at
+-- its last value
 pub record HasCauses (old new : Counts) (result : Outcome) : Type 0 where
   pub one_empty_read : new.empty_reads ≤ old.empty_reads + 1
   pub read_later : old.read_faults ≤ new.read_faults

@@ -16,8 +16,8 @@ pub record Meaning : Type 1 where
   pub ending : List ℕ → List ℕ
   pub due : Bool
 
--- What a run asks of a meaning: no bytes have no fault and no text, bytes after a fault don't mend it and add neither to
--- the text nor to what comes after it, and further bytes take nothing of the text back.
+-- What a run asks of a meaning: no bytes have no fault and no text, bytes after a fault don't mend it and add neither
+-- to the text nor to what comes after it, and further bytes take nothing of the text back.
 pub record IsLawful (m : Meaning) : Type 0 where
   pub never_at_first : m.faulty [] → ⊥
   pub nothing_at_first : m.text [] ≡ []

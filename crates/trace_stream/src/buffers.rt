@@ -31,8 +31,8 @@ impl Model for Buffers {
 }
 
 impl Buffers {
-    /// Takes the memory of a run: `serve` allocates nothing. What an action needs beside it, as a trace buffer, it takes
-    /// itself.
+    /// Takes the memory of a run: `serve` allocates nothing. What an action needs beside it, as a trace buffer, it
+    /// takes itself.
     pub fn open(alloc: Global) -> Result<Buffers, AllocError>
         ensures { IfOk result (λ b. (b.pending ≡ []) × (b.recent ≡ [])) }
     {

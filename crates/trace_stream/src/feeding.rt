@@ -57,8 +57,8 @@ pub fn pour_all<A: Action, O: Sink>(
 }
 
 /// Feeds a piece to the action, up to a fault, and writes all its text and its notes. The outlet is written before only
-/// where its room runs short, and the notes at each call. At a fault the last of the text is left pending, since more is
-/// to come after it; but nothing is owed.
+/// where its room runs short, and the notes at each call. At a fault the last of the text is left pending, since more
+/// is to come after it; but nothing is owed.
 pub fn feed_piece<A: Action, O: Sink, N: Sink>(
     action: &mut A,
     outlet: &mut Outlet,

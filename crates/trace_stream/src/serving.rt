@@ -80,8 +80,8 @@ fn finish_if_due<A: Action, O: Sink>(
 /// bytes, and writes what the action writes for it. It reads at most `limit` + 1 bytes, and not again once
 /// a read gave none.
 ///
-/// Before each read of the input all text so far is written, and all is noted that is to be. At a fault the recent bytes
-/// of the buffers are the last up to the one at which it became certain. Notes that fail change nothing else.
+/// Before each read of the input all text so far is written, and all is noted that is to be. At a fault the recent
+/// bytes of the buffers are the last up to the one at which it became certain. Notes that fail change nothing else.
 pub fn serve<A: Action, I: Source, O: Sink, N: Sink>(
     buffers: &mut Buffers,
     action: &mut A,

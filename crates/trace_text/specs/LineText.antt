@@ -1,5 +1,6 @@
 -- The lines of what the sources and the port gave.
-use Rattle.std.specs.Prelude.{ℕ, ◌-◌, List, [], ◌∷◌, ◌++◌, codes, decimal, length, take, Bool, true, false, Option, Some, None}
+use Rattle.std.specs.Prelude.{ℕ, ◌-◌, List, [], ◌∷◌, ◌++◌, codes, decimal, length, take, Bool, true, false, Option}
+use Rattle.std.specs.Prelude.{Some, None}
 use Rattle.hex.specs.Hex.{encode_lower}
 use Rattle.itm_grammar.specs.declared.packet.ItmPacket.{ItmPacket}
 use Rattle.stp_grammar.specs.declared.item.StpItem.{StpItem}

@@ -69,7 +69,8 @@ pub(crate) fn put_byte(room: &mut [u8], from: usize, byte: u8) -> usize
 }
 
 /// Puts the first `len` bytes of the entry of this number in a table, whose entries have `size` bytes each, a constant.
-/// There is room for the whole entry, so that no branch depends on `len`; what is after the text's end is of no account.
+/// There is room for the whole entry, so that no branch depends on `len`; what is after the text's end is of no
+/// account.
 #[inline(always)]
 pub(crate) fn put_entry(
     room: &mut [u8],

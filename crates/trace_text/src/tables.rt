@@ -40,8 +40,8 @@ pub(crate) const HEX_PAIRS: &[u8] = b"\
     c8c9cacbcccdcecfd0d1d2d3d4d5d6d7d8d9dadbdcdddedfe0e1e2e3e4e5e6e7e8e9eaebecedeeef\
     f0f1f2f3f4f5f6f7f8f9fafbfcfdfeff";
 
-/// The word of each width with a space after it, in four bytes: of one byte, of two, and of four. The bytes after it are
-/// of no account.
+/// The word of each width with a space after it, in four bytes: of one byte, of two, and of four. The bytes after it
+/// are of no account.
 pub(crate) const WIDTHS: &[u8] = b"u8  u16 u32 ";
 
 /// How many of these bytes there are.
@@ -62,15 +62,15 @@ pub(crate) const DATUM_WIDTH_LENS: &[u8] = &[3, 3, 4, 4, 4];
 /// How many hexadecimal digits a datum of each of these widths has.
 pub(crate) const DATUM_DIGITS: &[u8] = &[1, 2, 4, 8, 16];
 
-/// How late a local timestamp is, with a space after it, in twelve bytes: exact, then by its stamp, by its packet, and by
-/// both. The bytes after it are of no account.
+/// How late a local timestamp is, with a space after it, in twelve bytes: exact, then by its stamp, by its packet, and
+/// by both. The bytes after it are of no account.
 pub(crate) const LATENESSES: &[u8] = b"exact       stamp-late  packet-late both-late   ";
 
 /// How many of these bytes there are.
 pub(crate) const LATENESS_LENS: &[u8] = &[6, 11, 12, 10];
 
-/// The flags of a first global timestamp, each with a space before it, in four bytes: first by whether the clock changed,
-/// then by whether the time wrapped.
+/// The flags of a first global timestamp, each with a space before it, in four bytes: first by whether the clock
+/// changed, then by whether the time wrapped.
 pub(crate) const FLAGS: &[u8] = b" 0 0 0 1 1 0 1 1";
 
 /// How many bits the time of a second global timestamp has, with a space after it, in four bytes. The last is of no

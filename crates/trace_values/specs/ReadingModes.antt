@@ -2,7 +2,8 @@
 use Rattle.std.specs.Prelude.{ℕ, List, codes, Option, Some, None, Bool, true, false, if◌then◌else◌}
 use Rattle.std.specs.Str.{bytes_eq}
 use Rattle.trace_values.specs.declared.reading_modes.FramesMode.{FramesMode}
-use Rattle.trace_values.specs.declared.reading_modes.FramesMode.TheVariants.{Hunt as FramesHunt, Aligned as FramesAligned}
+use Rattle.trace_values.specs.declared.reading_modes.FramesMode.TheVariants.{Hunt as FramesHunt}
+use Rattle.trace_values.specs.declared.reading_modes.FramesMode.TheVariants.{Aligned as FramesAligned}
 use Rattle.trace_values.specs.declared.reading_modes.FramesMode.TheVariants.{Bare}
 use Rattle.trace_values.specs.declared.reading_modes.PacketsMode.{PacketsMode}
 use Rattle.trace_values.specs.declared.reading_modes.PacketsMode.TheVariants.{Hunt, Aligned}

@@ -6,7 +6,7 @@ use Rattle.capture_actions.proofs.reading.CaptureReading.take.Goals as goal
 
 pub loop-turn-init : goal.loop-turn-init
 loop-turn-init g c = record {
-  within = c.requires.some;
+  within = c.requires.piece.0;
   some = omega arith;
   space = c.requires.space;
   took = took_none g.V.Receiver.gets g.met.V.Receiver.adds_up
