@@ -61,14 +61,11 @@ pub trait Action {
     /// What is to be noted of the front it puts into `notes`, which is empty.
     fn feed(&mut self, piece: &[u8], outlet: &mut Outlet, notes: &mut Outlet) -> Progress
         requires live { live self.old }
-        requires paid { debt self.old ≡ Paid }
-        requires some { 0 < length piece.now }
+        requires idle { (debt self.old ≡ Paid) × (notes.old ≡ []) }
+        requires piece { (0 < length piece.now) × (taken self.old + length piece.now ≤ GREATEST_CAPTURE) }
         requires room { length outlet.old + ACTION_ROOM ≤ OUTLET_ROOM }
-        requires count { taken self.old + length piece.now ≤ GREATEST_CAPTURE }
-        requires silent { notes.old ≡ [] }
         ensures same { plan self.new ≡ plan self.old }
-        ensures front { TakesSome piece.now result.bytes }
-        ensures count { taken self.new ≡ taken self.old + result.bytes }
+        ensures front { TakesSome piece.now result.bytes × (taken self.new ≡ taken self.old + result.bytes) }
         ensures fed { (seen : List ℕ) → stands self.old seen →
             let front = take result.bytes piece.now in
             let after = with_debt outlet.new (debt self.new) in

@@ -68,8 +68,7 @@ pub fn feed_piece<A: Action, O: Sink, N: Sink>(
     piece: &[u8],
 ) -> Result<Progress, Failed>
     requires live { A.live action.old }
-    requires paid { A.debt action.old ≡ Paid }
-    requires silent { lines.old ≡ [] }
+    requires idle { (A.debt action.old ≡ Paid) × (lines.old ≡ []) }
     requires count { A.taken action.old + length piece.now ≤ GREATEST_CAPTURE }
     ensures same { A.plan action.new ≡ A.plan action.old }
     ensures paid { OnOk result (A.debt action.new ≡ Paid) }

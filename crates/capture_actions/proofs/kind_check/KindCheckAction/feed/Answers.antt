@@ -29,6 +29,6 @@ returns-clause-fed c = λ seen s.
       more = [];
       grown = refl;
       gained = still_paid p q old.kinds new.out old.lines (last_by p old.reading.stop old.tails)
-          (last_by q new.self.stop old.tails) c.args._outlet.now c.requires.paid;
+          (last_by q new.self.stop old.tails) c.args._outlet.now c.requires.idle.0;
       fault = grew.fault;
     }

@@ -10,10 +10,10 @@ loop-done-init g c = record {
   few = omega arith;
   none = λ e. (refl, refl);
   live = c.requires.live;
-  paid = c.requires.paid;
+  paid = c.requires.idle.0;
   count = omega arith;
   took = took_none _ _ _ _ c.args.self.now (record { text = c.args.outlet.now; notes = c.args.notes.now })
-      c.requires.silent;
+      c.requires.idle.1;
 }
 
 pub loop-done-preserved : goal.loop-done-preserved
