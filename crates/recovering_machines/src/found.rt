@@ -35,8 +35,8 @@ fn look<M: Finds, V: Hearer>(
     requires live { M.live machine.old ≡ true }
     requires ahead { count + AHEAD ≤ length ahead.now }
     ensures own { (parts : M.Parts) → result ≡ Ends parts → V.takes out.now id M.kind }
-    ensures same { M.reads machine.new ≡ M.reads machine.old }
-    ensures alike { ReadsAlike (M.source machine.old) (M.source machine.new) }
+    ensures same { (M.reads machine.new ≡ M.reads machine.old)
+        × ReadsAlike (M.source machine.old) (M.source machine.new) }
     ensures live { M.live machine.new ≡ true }
     ensures ends { (parts : M.Parts) → result ≡ Ends parts →
         M.ends machine.new ahead.now parts × (M.bytes_in parts ≤ count) }

@@ -43,8 +43,8 @@ loop-done-preserved-in-Ends g c =
     (ended taken.half last.at (packet_of taken.item)) c.ahead-ahead.result.now
     (found.stayed (kind g) g.M.Finds.source g.V.Hearer.gets g.V.Hearer.room g.met.V.Hearer.adds_up.none
     g.met.V.Hearer.adds_up.more c.args.id run c.args.from c.args.machine.now (c.args.out.now, c.args.to.now)
-    done c.loop-done.machine c.look.new.machine (c.loop-done.out, c.loop-done.to) c.look.ensures.same
-    c.look.ensures.alike c.look.ensures.live
+    done c.loop-done.machine c.look.new.machine (c.loop-done.out, c.loop-done.to) c.look.ensures.same.0
+    c.look.ensures.same.1 c.look.ensures.live
     (c.look.ensures.idles (λ w. (let z = c.in-Ends.is in let q = w in cc))) c.loop-done.invariant)
     end.bytes.0 within c.cell.ensures c.ahead-ahead.ensures.bytes
     (let k = c.ahead-ahead.ensures.room in omega (arith, k)) end.same end.alike end.live end.few end.passes
@@ -71,7 +71,7 @@ loop-done-preserved g c =
     done count c.loop-done.machine c.look.new.machine (c.loop-done.out, c.loop-done.to)
     (c.loop-done.out, c.loop-done.to) (last_of run done count) None [] c.ahead-ahead.result.now
     i some within (last_is run done count some within) c.ahead-ahead.ensures.bytes
-    (let k = c.ahead-ahead.ensures.room in omega (arith, k)) c.look.ensures.same c.look.ensures.alike
+    (let k = c.ahead-ahead.ensures.room in omega (arith, k)) c.look.ensures.same.0 c.look.ensures.same.1
     c.look.ensures.live (c.look.ensures.few c.in-Waits.is) (c.look.ensures.waits c.in-Waits.is) refl
     (g.met.V.Hearer.adds_up.none (c.loop-done.out, c.loop-done.to)) (omega arith))
 
@@ -80,6 +80,6 @@ returns-in-Unknown g c =
     found.stayed (kind g) g.M.Finds.source g.V.Hearer.gets g.V.Hearer.room g.met.V.Hearer.adds_up.none
     g.met.V.Hearer.adds_up.more c.args.id (g.R.Run.cells c.args.run.now) c.args.from c.args.machine.now
     (c.args.out.now, c.args.to.now) c.loop-done.done c.loop-done.machine c.look.new.machine
-    (c.loop-done.out, c.loop-done.to) c.look.ensures.same
-    c.look.ensures.alike c.look.ensures.live
+    (c.loop-done.out, c.loop-done.to) c.look.ensures.same.0
+    c.look.ensures.same.1 c.look.ensures.live
     (c.look.ensures.idles (λ w. (let z = c.in-Unknown.is in let q = w in cc))) c.loop-done.invariant
