@@ -10,7 +10,7 @@ ghost use Rattle.trace_text.specs.Puts.{Puts, PutsAll};
 use crate::hardware::put_hardware;
 use crate::room::{
     ITEM_ROOM, PART_ROOM, WORD_ROOM, put_bytes, put_count, put_digits, put_entry, put_number,
-    put_port, put_short, put_slice, put_value,
+    put_part, put_port, put_short, put_slice, put_value,
 };
 use crate::tables::{BITS, FLAGS, LATENESS_LENS, LATENESSES};
 use dwt_packets::meaning;
@@ -22,9 +22,7 @@ fn put_lateness(room: &mut [u8], from: usize, lateness: Lateness) -> usize
     requires room { from + WORD_ROOM ≤ length room.old }
     ensures { Puts room.old room.new from result WORD_ROOM (lateness_text lateness ++ codes " ") }
 {
-    let lens = LATENESS_LENS;
-    let number = lateness as usize;
-    put_entry(room, from, LATENESSES, 12, number, lens[number] as usize)
+    put_part(room, from, LATENESSES, 12, LATENESS_LENS, lateness as u8)
 }
 
 #[inline]
