@@ -29,7 +29,7 @@ use Rattle.script_text.specs.Numbers.{hexadecimal_named}
 use Rattle.script_text.specs.Shapes.{shape_named}
 use Rattle.script_text.specs.Items.{itm_of, item_of}
 use Rattle.script_text.specs.Bytes.{bytes_named}
-use Rattle.script_text.specs.Lines.{taken_by, is_nothing, line_of_words, line_of_printable, line_of, answer}
+use Rattle.script_text.specs.Lines.{taken_by, is_nothing, line_of_words, by_words, line_of, answer}
 use Rattle.script_text.specs.Lines.{◌>>=◌ as ◌>>ₗ◌}
 use Rattle.script_text.specs.Quick.{BeginsWith, BeginsWithNumber, BeginsWithDigits, SaysPacket, SaysItem, SaysFirst}
 use Rattle.script_text.specs.Quick.{IsItemOf, IsFirstLine}
@@ -334,7 +334,7 @@ first_line piece rest after number line l h b e s n few =
 pub printable_says : (plan : Plan) (line : List ℕ) (id : ℕ) (item : Item) (r : Result Line LineFault) →
     IsItemOf line id item →
     taken_by (kind_of plan id) id item ≡ r →
-    (if are_printable line then line_of_printable plan line else Err BadLine) ≡ r
+    by_words (line_of_words plan) line ≡ r
 printable_says plan line id item r p e = by (are_printable line) (are_words 0 (words_in line)) p.printable p.words
     ∙ p.said plan ∙ e
   where
@@ -354,7 +354,7 @@ line_says plan line id item r few p e =
     by (nat_lt 256 (length line)) (is_nothing line) short p.some ∙ printable_says plan line id item r p e
   where
     printable : Result Line LineFault
-    printable = if are_printable line then line_of_printable plan line else Err BadLine
+    printable = by_words (line_of_words plan) line
 
     by : (a b : Bool) → a ≡ false → b ≡ false →
         (if a then Err LongLine else (if b then Ok Nothing else printable)) ≡ printable
