@@ -66,17 +66,13 @@ named c at =
     (c.loop-pair.invariant.part at)
 
 pub returns-then-last-eq0-clause-bytes : goal.returns-then-last-eq0-clause-bytes
-returns-then-last-eq0-clause-bytes c = λ frames at s.
-    has_bytes _ _ frames (cells c.args.frame.now at c.args.before) _ (plain c at) _ s
+returns-then-last-eq0-clause-bytes c = λ frames at s. has_bytes _ _ frames _ _ (plain c at) _ s
 
 pub returns-then-last-eq0-clause-items : goal.returns-then-last-eq0-clause-items
-returns-then-last-eq0-clause-items c = λ frames at s.
-    items_counted _ _ frames (cells c.args.frame.now at c.args.before) _ (plain c at) s
+returns-then-last-eq0-clause-items c = λ frames at s. items_counted _ _ frames _ _ (plain c at) s
 
 pub returns-else-last-eq0-clause-bytes : goal.returns-else-last-eq0-clause-bytes
-returns-else-last-eq0-clause-bytes c = λ frames at s.
-    has_bytes _ _ frames (cells c.args.frame.now at c.args.before) _ (named c at) _ s
+returns-else-last-eq0-clause-bytes c = λ frames at s. has_bytes _ _ frames _ _ (named c at) _ s
 
 pub returns-else-last-eq0-clause-items : goal.returns-else-last-eq0-clause-items
-returns-else-last-eq0-clause-items c = λ frames at s.
-    items_counted _ _ frames (cells c.args.frame.now at c.args.before) _ (named c at) s
+returns-else-last-eq0-clause-items c = λ frames at s. items_counted _ _ frames _ _ (named c at) s
