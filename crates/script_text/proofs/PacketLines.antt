@@ -2,7 +2,7 @@
 use Rattle.std.proofs.Common.{◌≡◌, ℕ, zero, suc, append_assoc, length-append, ◌+◌, ◌-◌, ◌*◌, ◌<◌, ◌≤◌, ◌^◌, List, []}
 use Rattle.std.proofs.Common.{◌∷◌, ◌++◌, length, take, drop, refl, sym, ◌∙◌, ap, subst, arith, Bool, true, false, Some}
 use Rattle.std.proofs.Common.{None, Option, Ok, Err, Result, slice_index, ◌==◌, nat_lt, nat_le, codes, decimal, ok_or}
-use Rattle.std.proofs.Common.{OnOk, if◌then◌else◌}
+use Rattle.std.proofs.Common.{OnOk, if◌then◌else◌, rules}
 use Rattle.std.specs.List.{list_all, AllPass}
 use Rattle.std.proofs.lemmas.List.Elements.{All-head, All-tail}
 use Rattle.hex.specs.Hex.{is_hex_digit}
@@ -154,8 +154,7 @@ port_words port size digits = codes "port" ∷ (decimal port ∷ (size_word size
 port_shape : (port : ℕ) (size : Size) (digits : List ℕ) →
     shape_named (port_words port size digits) ≡ Some (shapes.Itm (itm_shapes.Software size))
 unfolding shape_named
-port_shape port One digits = refl
-port_shape port size digits = refl
+port_shape port size digits = search rules
 
 port_item : (size : Size) (port v : ℕ) (digits : List ℕ) → port ≤ 31 →
     hexadecimal_named (2 * byte_count size) digits ≡ Some v →
@@ -167,12 +166,10 @@ port_item size port v digits h e =
     rw (n, e) refl
 
 size_is_word : (size : Size) → is_word (size_word size) ≡ true
-size_is_word One = refl
-size_is_word size = refl
+size_is_word size = search rules
 
 digits_some : (size : Size) (digits : List ℕ) → length digits ≡ 2 * byte_count size → 0 < length digits
-digits_some One digits e = omega arith
-digits_some size digits e = omega arith
+digits_some size digits e = grind arith
 
 software_says : (line rest digits : List ℕ) (port : ℕ) (size : Size) (v : ℕ) → port ≤ 31 →
     BeginsWithNumber line port rest → BeginsWith rest (size_word size) digits →
