@@ -1,6 +1,6 @@
 -- What a sound plan maps.
 use Rattle.std.proofs.Common.{◌≡◌, ℕ, ◌≤◌, List, [], ◌∷◌, ◌++◌, refl, sym, ◌∙◌, ap, subst, arith, Bool, true, false}
-use Rattle.std.proofs.Common.{Option, None, Some, ◌==◌, ◌&&◌, ◌||◌, not, nat_le, if◌then◌else◌}
+use Rattle.std.proofs.Common.{Option, None, Some, ◌==◌, ◌&&◌, ◌||◌, not, nat_le, if◌then◌else◌, rules}
 use Rattle.std.specs.List.{list_any}
 use Rattle.std.proofs.lemmas.Bool.Decides.{nat_tests}
 use Rattle.script_laws.specs.Names.{Plan, SourceKind, kind_of, are_sound, is_sound, in_order}
@@ -90,9 +90,7 @@ KindSays (Some Stp) a b = (a ≡ false) × (b ≡ true)
 KindSays None a b = (a ≡ false) × (b ≡ false)
 
 kind_says : (a b : Bool) → KindSays (kind_by a b) a b
-kind_says true b = refl
-kind_says false true = (refl, refl)
-kind_says false false = (refl, refl)
+kind_says a b = search rules
 
 pub lists_by : (plan : Plan) (x : ℕ) (kind : Option SourceKind) → kind_of plan x ≡ kind →
     KindSays kind (is_one x plan.itm) (is_one x plan.stp)
