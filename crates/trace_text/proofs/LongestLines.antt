@@ -101,8 +101,7 @@ first_value len v h l =
     omega arith
 
 second_value : (wide : Bool) (v : ℕ) → v < 2 ^ second_bits wide → v < 2 ^ 38
-second_value true v h = h
-second_value false v h = omega arith
+second_value wide v h = grind arith
 
 pub item : (p : ItmPacket) → IsProper p → length (item_text p) ≤ 27
 item Sync h = omega arith
@@ -169,14 +168,10 @@ stp (Frequency hertz s) h = simp length-append (omega (arith, length-decimal-le 
 stp (NullStamp s) h = let e = stamp s h in omega arith
 
 source : (s : Option ℕ) → IsShortSource s → length (source_text s) ≤ 4
-source None h = omega arith
-source (Some id) h = omega arith
+source s h = grind arith
 
 beside : (r : Remark) → IsShortRemark r → length (remark_text r) ≤ 27
-beside NoRemark h = omega arith
-beside (Clock ticks) h = omega arith
-beside (Time (Some time)) h = omega arith
-beside (Time None) h = omega arith
+beside r h = grind arith
 
 nothing : (r : Remark) → IsNone r → length (remark_text r) ≤ 0
 nothing NoRemark h = omega arith
@@ -194,8 +189,7 @@ rest (Raw bytes) s r p u e a b c = omega (arith, source s b, length-encode_with 
 rest (Trigger byte) s r p u e a b c = omega (arith, source s b, code byte, nothing r u)
 
 half : (s : Bool) (h : ℕ) → HasDigits 3 h → length (half_text s h) ≤ 4
-half true h l = omega arith
-half false h l = omega arith
+half s h l = grind arith
 
 -- the line of an event
 pub event : (s : Bool) (e : Event Packet) (r : Remark) → IsPrintable e r → IsShort e → IsShortRemark r → length (event_line s e r) ≤ 92
