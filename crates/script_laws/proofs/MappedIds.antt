@@ -36,11 +36,7 @@ sound_first x ids e =
     record { low = grind (arith, nat_tests); high = grind (arith, nat_tests); once = not_true (is_one x ids) c.0; rest = c.1 }
   where
     assoc : (p q r s : Bool) → (((p && q) && r) && s) ≡ true → (p && (q && (r && s))) ≡ true
-    assoc true true true true e = e
-    assoc true true true false e = e
-    assoc true true false s e = e
-    assoc true false r s e = e
-    assoc false q r s e = e
+    assoc p q r s e = grind arith
 
     by : are_sound (x ∷ ids) ≡ true → (nat_le 1 x && (nat_le x 111 && (not (is_one x ids) && are_sound ids))) ≡ true
     by e = assoc (nat_le 1 x) (nat_le x 111) (not (is_one x ids)) (are_sound ids) e
