@@ -1,7 +1,7 @@
 -- Lines that are read from their bytes: their words, and what they say.
 use Rattle.std.proofs.Common.{◌≡◌, ℕ, zero, suc, append_assoc, length-append, ◌+◌, ◌-◌, ◌*◌, ◌<◌, ◌≤◌, ◌^◌, List, []}
 use Rattle.std.proofs.Common.{◌∷◌, ◌++◌, length, take, drop, refl, sym, ◌∙◌, ap, subst, arith, Bool, true, false, Some}
-use Rattle.std.proofs.Common.{None, Option, Ok, Err, Result, slice_index, ◌==◌, nat_lt, nat_le, codes, decimal, ok_or}
+use Rattle.std.proofs.Common.{Option, Ok, Err, Result, slice_index, ◌==◌, nat_lt, codes, decimal, ok_or}
 use Rattle.std.proofs.Common.{OnOk, if◌then◌else◌, rules}
 use Rattle.std.specs.List.{list_all, AllPass}
 use Rattle.std.proofs.lemmas.List.Elements.{All-head, All-tail}
@@ -266,13 +266,6 @@ raw_says line digits bytes is e =
     (both _ _ word refl) (raw_shape digits) (rw e refl))
 
 -- a whole line
-named_is : (number id : ℕ) → Some id ≡ (if nat_le number 126 then Some number else None) → id ≡ number
-named_is number id e = by (nat_le number 126) e
-  where
-    by : (v : Bool) → Some id ≡ (if v then Some number else None) → id ≡ number
-    by true e = cc
-    by false e = cc
-
 other_than_remark : (c : ℕ) → digit_value c < 10 → (c == 35) ≡ false
 other_than_remark c h = grind (arith, nat_tests)
 
@@ -291,11 +284,10 @@ first_word : (word : List ℕ) (words : List (List ℕ)) → 0 < length word →
     are_words 0 (word ∷ words) ≡ true
 first_word word words l m = let a : nat_lt 0 (length word) ≡ true = grind (arith, nat_tests) in rw a m
 
-pub item_of_line : (line rest : List ℕ) (number id : ℕ) (item : Item) → 1 ≤ number → number ≤ 126 →
-    BeginsWithNumber line number rest →
-    Some id ≡ (if nat_le number 126 then Some number else None) → SaysItem rest item → IsItemOf line id item
-item_of_line line rest number id item l h b e s =
-    subst (λ (id : ℕ). IsItemOf line id item) (sym (named_is number id e)) (record {
+pub item_of_line : (line rest : List ℕ) (number id : ℕ) (item : Item) → (id ≡ number) × (1 ≤ number) × (number ≤ 126) →
+    BeginsWithNumber line number rest → SaysItem rest item → IsItemOf line id item
+item_of_line line rest number id item (e, l, h) b s =
+    subst (λ (id : ℕ). IsItemOf line id item) (sym e) (record {
       some = some_line line rest number (omega arith) b;
       printable = (parted line (decimal number) rest b).printable ∙ s.printable;
       words = ap (are_words 0) (parted line (decimal number) rest b).words
@@ -306,12 +298,11 @@ item_of_line line rest number id item l h b e s =
     })
 
 -- and the first line of a piece
-pub first_line : (piece rest after : List ℕ) (number : ℕ) (line : PacketLine) → 1 ≤ number → number ≤ 126 →
-    BeginsWithNumber piece number rest →
-    Some line.id ≡ (if nat_le number 126 then Some number else None) → SaysFirst rest line.packet after →
-    line.bytes ≡ length piece - length after - 1 → line.bytes ≤ 256 →
+pub first_line : (piece rest after : List ℕ) (number : ℕ) (line : PacketLine) →
+    (line.id ≡ number) × (1 ≤ number) × (number ≤ 126) → BeginsWithNumber piece number rest →
+    SaysFirst rest line.packet after → line.bytes ≡ length piece - length after - 1 → line.bytes ≤ 256 →
     IsFirstLine piece line
-first_line piece rest after number line l h b e s n few =
+first_line piece rest after number line id b s n few =
     let text = decimal number ++ 32 ∷ s.text in
     let all : piece ≡ text ++ 10 ∷ after = b.all ∙ ap (λ (r : List ℕ). decimal number ++ 32 ∷ r) s.all
     ∙ sym (append_assoc (decimal number) (32 ∷ s.text) (10 ∷ after)) in
@@ -323,8 +314,8 @@ first_line piece rest after number line l h b e s n few =
       all = all;
       bytes = bytes;
       few = omega arith;
-      says = item_of_line text s.text number line.id (items.Itm line.packet) l h
-          (record { all = refl; graphic = b.graphic }) e s.says;
+      says = item_of_line text s.text number line.id (items.Itm line.packet) id
+          (record { all = refl; graphic = b.graphic }) s.says;
     }
 
 -- and its reading
