@@ -70,7 +70,8 @@ is_nothing (b ∷ line) = b == 35
 -- what the words of a line say, where it has words of printable bytes
 abbrev pub by_words : {T : Type 0} → (List (List ℕ) → Result T LineFault) → List ℕ → Result T LineFault
 by_words said line =
-    if are_printable line then (if are_words 0 (words_in line) then said (words_in line) else Err BadLine) else Err BadLine
+    if are_printable line then (if are_words 0 (words_in line) then said (words_in line) else Err BadLine)
+    else Err BadLine
 
 -- what a line without its line feed says, or its first fault
 unfoldable pub line_of : Plan → List ℕ → Result Line LineFault

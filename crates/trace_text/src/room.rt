@@ -1,8 +1,8 @@
 //! Bytes and numbers in the room that a text is given. Each is put after the first `from` bytes,
 //! and its end is the answer.
 
-ghost use Rattle.std.specs.Prelude.{◌≡◌, ◌+◌, ◌*◌, ◌≤◌, ◌<◌, ◌++◌, ◌∷◌, [], length, take, drop, codes, decimal, nat_lt, slice_index};
-ghost use Rattle.std.specs.Prelude.{if◌then◌else◌, ◌/◌};
+ghost use Rattle.std.specs.Prelude.{◌≡◌, ◌+◌, ◌*◌, ◌≤◌, ◌<◌, ◌++◌, ◌∷◌, [], length, take, drop, codes, decimal, nat_lt};
+ghost use Rattle.std.specs.Prelude.{if◌then◌else◌, ◌/◌, slice_index};
 ghost use Rattle.hex.specs.Hex.{encode_lower};
 ghost use Rattle.trace_text.specs.Pairs.{pair, four, eight};
 ghost use Rattle.itm_grammar.specs.Spelling.{byte_count};

@@ -62,7 +62,7 @@ pub(crate) const DATUM_WIDTH_LENS: &[u8] = &[3, 3, 4, 4, 4];
 /// How many hexadecimal digits a datum of each of these widths has.
 pub(crate) const DATUM_DIGITS: &[u8] = &[1, 2, 4, 8, 16];
 
-/// `local` and how late a local timestamp is, with a space after it, in eighteen bytes: exact, then by its stamp, by its
+/// `local` and how late a local timestamp is, with a space after it, in 18 bytes: exact, then by its stamp, by its
 /// packet, and by both. The bytes after it are of no account.
 pub(crate) const LATENESSES: &[u8] =
     b"local exact       local stamp-late  local packet-late local both-late   ";
