@@ -139,8 +139,11 @@ by_default = (
   (λ x e. absurd cc, λ x e. absurd cc, λ x e. absurd cc),
 )
 
-positive : (n : ℕ) → 1 ≤ n → 0 < n
-positive n is = omega (arith, is)
+positive : (text : Text) (n : ℕ) → number_named 1 1000000000000 text ≡ Some n → 0 < n
+positive text n e = let is = between 1 1000000000000 text n e in omega (arith, is.0)
+
+in_order : (text : Text) (ids : List ℕ) → ids_named 16 126 text ≡ Some ids → AreIds 16 126 ids
+in_order text ids e = (ids_is 16 126 ids text (lit≤ tt) e).0
 
 -- each option that is given keeps that
 kept : (s : Settings) (option : CommandOption) (text : Text) (t : Settings) → AreSettings s →
@@ -171,27 +174,13 @@ kept s Lose text t (plan, (half, lose, port), ranges, optional) e =
 kept s Recover text t are e = changed AreSettings (recover_named text) _ t (λ x is. are) e
 kept s Size text t (plan, small, ranges, (size, order, hz)) e =
     changed AreSettings (present (number_named 16 (2 ^ 24) text)) _ t
-    (λ value is. (
-      plan,
-      small,
-      ranges,
-      (if_present (Between 16 (2 ^ 24)) (number_named 16 (2 ^ 24) text) value (between 16 (2 ^ 24) text) is, order, hz),
-    )) e
+    (λ value is. (plan, small, ranges, (if_present (Between 16 (2 ^ 24)) _ value (between 16 (2 ^ 24) text) is, order, hz)))
+    e
 kept s Pointer text t are e = changed AreSettings (number_named 0 16777215 text) _ t (λ x is. are) e
 kept s Full text t are e = changed AreSettings (bit_named text) _ t (λ x is. are) e
 kept s Order text t (plan, small, ranges, (size, order, hz)) e =
     changed AreSettings (present (ids_named 16 126 text)) _ t
-    (λ value is. (
-      plan,
-      small,
-      ranges,
-      (
-        size,
-        if_present (AreIds 16 126) (ids_named 16 126 text) value
-            (λ ids named. (ids_is 16 126 ids text (lit≤ tt) named).0) is,
-        hz,
-      ),
-    )) e
+    (λ value is. (plan, small, ranges, (size, if_present (AreIds 16 126) _ value (in_order text) is, hz))) e
 kept s Hold text t (plan, small, (limit, items, hold, depth), optional) e =
     changed AreSettings (number_named 1 15 text) _ t
     (λ n is. (plan, small, (limit, items, between 1 15 text n is, depth), optional)) e
@@ -203,17 +192,7 @@ kept s Port text t (plan, (half, lose, port), ranges, optional) e =
     (λ n is. (plan, (half, lose, (between 0 31 text n is).1), ranges, optional)) e
 kept s Hz text t (plan, small, ranges, (size, order, hz)) e =
     changed AreSettings (present (number_named 1 1000000000000 text)) _ t
-    (λ value is. (
-      plan,
-      small,
-      ranges,
-      (
-        size,
-        order,
-        if_present (λ n. 0 < n) (number_named 1 1000000000000 text) value
-            (λ n named. positive n (between 1 1000000000000 text n named).0) is,
-      ),
-    )) e
+    (λ value is. (plan, small, ranges, (size, order, if_present (λ n. 0 < n) _ value (positive text) is))) e
 kept s Kinds text t are e = changed AreSettings (switch_named text) _ t (λ x is. are) e
 
 kept_given : (s : Settings) (option : CommandOption) (text : Option Text) (t : Settings) → AreSettings s →

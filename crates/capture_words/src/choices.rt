@@ -29,20 +29,14 @@ fn kind_named(name: &str) -> Option<Kind>
 fn source_after(front: &str, text: &str) -> Option<SourceId>
     ensures { result ≡ number_after front.now 1 126 text.now }
 {
-    match text_after(front, text) {
-        Some(number) => id_named(1, 126, number),
-        None => None,
-    }
+    id_named(1, 126, text_after(front, text)?)
 }
 
 /// The stimulus port or the comparator, from 0 to `greatest`, whose number comes after this front of a text.
 fn place_after(front: &str, greatest: u8, text: &str) -> Option<u8>
     ensures { result ≡ number_after front.now 0 greatest text.now }
 {
-    match text_after(front, text) {
-        Some(number) => u8_named(0, greatest, number),
-        None => None,
-    }
+    u8_named(0, greatest, text_after(front, text)?)
 }
 
 /// The choice of this text: a kind of events, `time`, `id=N` with N from 1 to 126, `port=N` with N from 0 to 31, or
@@ -62,10 +56,7 @@ pub fn choice_named(text: &str) -> Option<Choice>
     if let Some(port) = place_after("port=", 31, text) {
         return Some(Choice::Port(port));
     }
-    match place_after("cmp=", 3, text) {
-        Some(comparator) => Some(Choice::Comparator(comparator)),
-        None => None,
-    }
+    Some(Choice::Comparator(place_after("cmp=", 3, text)?))
 }
 
 impl Listed for Choices {

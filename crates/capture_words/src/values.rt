@@ -101,20 +101,14 @@ pub fn switch_named(name: &str) -> Option<bool>
 pub fn u32_named(least: u32, greatest: u32, text: &str) -> Option<u32>
     ensures { result ≡ number_named least greatest text.now }
 {
-    match number_named(u64::from(least), u64::from(greatest), text) {
-        Some(number) => Some(number as u32),
-        None => None,
-    }
+    Some(number_named(u64::from(least), u64::from(greatest), text)? as u32)
 }
 
 /// The same of a byte.
 pub fn u8_named(least: u8, greatest: u8, text: &str) -> Option<u8>
     ensures { result ≡ number_named least greatest text.now }
 {
-    match number_named(u64::from(least), u64::from(greatest), text) {
-        Some(number) => Some(number as u8),
-        None => None,
-    }
+    Some(number_named(u64::from(least), u64::from(greatest), text)? as u8)
 }
 
 /// The text of the entry of this name, if there is one.

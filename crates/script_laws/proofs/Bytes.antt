@@ -33,11 +33,7 @@ HasKind None (Raw bytes) = Unit {0}
 HasKind kind item = ⊥
 
 taken_kind : (kind : Option SourceKind) (id : ℕ) (item : Item) (line : Line) → taken_by kind id item ≡ Ok line → HasKind kind item
-taken_kind (Some kinds.Itm) id (Itm p) line e = tt
-taken_kind (Some kinds.Itm) id (Dwt d) line e = tt
-taken_kind (Some kinds.Stp) id (Stp item) line e = tt
-taken_kind None id (Raw bytes) line e = tt
-taken_kind kind id item line e = cc
+taken_kind kind id item line e = grind arith
 
 -- the bytes of a source among tagged bytes
 abbrev pub bytes_for : ℕ → List Tagged → List ℕ

@@ -1,17 +1,11 @@
 -- Each shape's row can be written and read, and is found by its words; and words that have a shape begin with its word.
 use Rattle.std.proofs.Common.{◌≡◌, ℕ, List, [], ◌∷◌, refl, sym, subst, Bool, true, false, Some, codes, if◌then◌else◌}
-use Rattle.std.proofs.Common.{bytes_eq}
+use Rattle.std.proofs.Common.{bytes_eq, rules}
 use Rattle.std.proofs.lemmas.Slice.Eq.{bytes_eq-Decides}
-use Rattle.script_laws.specs.Names.{Enter, Eight, Sixteen, ThirtyTwo, SixtyFour, Shape, ItmShape, DwtShape, StpShape}
+use Rattle.script_laws.specs.Names.{Shape, ItmShape, DwtShape, StpShape}
 use Rattle.script_laws.specs.Names.{fields_of, fits, first_fitting, shapes_named, shape_named, Row, Values, word_in}
 use Rattle.script_laws.specs.Names.{fields_in, itm_row, dwt_row, stp_row, raw_row}
-use Rattle.itm_grammar.specs.declared.packet.Size.TheVariants.{One}
-use Rattle.itm_grammar.specs.declared.packet.Lateness.TheVariants.{Exact}
-use Rattle.stp_grammar.specs.declared.packet.Width.TheVariants.{Four}
 use Rattle.script_text.specs.declared.shapes.Shape.TheVariants.{Itm, Dwt, Stp, Raw}
-use Rattle.script_text.specs.declared.itm_shapes.ItmShape.TheVariants.{Software, Local, GlobalSecond, Extension}
-use Rattle.script_text.specs.declared.dwt_shapes.DwtShape.TheVariants.{Exception, Read, Written, Other}
-use Rattle.script_text.specs.declared.stp_shapes.StpShape.TheVariants.{Datum}
 use Rattle.script_laws.proofs.Fields.{row_sound, row_words}
 
 -- a row can be written and read, and its words have its shape
@@ -21,28 +15,15 @@ Checked shape r =
 
 pub itm_checked : (shape : ItmShape) → Checked (Itm shape) (itm_row shape)
 unfolding shape_named
-itm_checked (Software One) = (refl, λ v. refl)
-itm_checked (Local Exact) = (refl, λ v. refl)
-itm_checked (GlobalSecond false) = (refl, λ v. refl)
-itm_checked (Extension false) = (refl, λ v. refl)
-itm_checked shape = (refl, λ v. refl)
+itm_checked shape = search rules
 
 pub dwt_checked : (shape : DwtShape) → Checked (Dwt shape) (dwt_row shape)
 unfolding shape_named
-dwt_checked (Exception Enter) = (refl, λ v. refl)
-dwt_checked (Read One) = (refl, λ v. refl)
-dwt_checked (Written One) = (refl, λ v. refl)
-dwt_checked (Other One) = (refl, λ v. refl)
-dwt_checked shape = (refl, λ v. refl)
+dwt_checked shape = search rules
 
 pub stp_checked : (shape : StpShape) → Checked (Stp shape) (stp_row shape)
 unfolding shape_named
-stp_checked (Datum Four false) = (refl, λ v. refl)
-stp_checked (Datum Eight false) = (refl, λ v. refl)
-stp_checked (Datum Sixteen false) = (refl, λ v. refl)
-stp_checked (Datum ThirtyTwo false) = (refl, λ v. refl)
-stp_checked (Datum SixtyFour false) = (refl, λ v. refl)
-stp_checked shape = (refl, λ v. refl)
+stp_checked shape = search rules
 
 pub raw_checked : Checked Raw raw_row
 unfolding shape_named

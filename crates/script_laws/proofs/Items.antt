@@ -1,7 +1,7 @@
 -- The items of the table: the shape and the values of each, and that its row makes it of them, and no other.
 use Rattle.std.proofs.Common.{◌≡◌, ℕ, zero, suc, ◌-◌, ◌*◌, ◌/◌, ◌%◌, ◌<◌, ◌≤◌, ◌^◌, List, [], ◌∷◌, ◌++◌, refl, sym, ◌∙◌}
 use Rattle.std.proofs.Common.{ap, arith, append_assoc, Bool, true, false, Option, Some, decimal, codes, ◌==◌, nat_le}
-use Rattle.std.proofs.Common.{IsSome}
+use Rattle.std.proofs.Common.{IsSome, rules}
 use Rattle.std.specs.Int.{to_be_bytes, w16, w32}
 use Rattle.hex.specs.Hex.{encode_lower}
 use Rattle.itm_grammar.specs.declared.packet.Size.{Size}
@@ -33,7 +33,6 @@ use Rattle.script_laws.specs.Names.{null_stamp}
 use Rattle.itm_grammar.specs.Spelling.{byte_count}
 use Rattle.dwt_packets.specs.Table.{name}
 use Rattle.dwt_packets.proofs.FirstRow.{no_row}
-use Rattle.stp_grammar.specs.declared.packet.Width.TheVariants as widths
 use Rattle.stp_grammar.specs.declared.item.Stamp.TheVariants.{None as NoStamp, Raw as RawStamp}
 use Rattle.script_text.proofs.Options.{some_of, chosen_some}
 use Rattle.script_text.proofs.Ranges.{unnamed_is, value_small as size_small}
@@ -132,24 +131,20 @@ words_of (Raw bytes) = row_words raw_row (bytes, tt)
 
 -- the values are in their ranges
 bit_small : (flag : Bool) → bit flag ≤ 1
-bit_small true = omega arith
-bit_small false = omega arith
+bit_small flag = search rules
 
 pub value_small : (len value : ℕ) → len ≤ 4 → value < 2 ^ first_bits len → value < 2 ^ 26
 value_small (suc (suc (suc (suc (suc n))))) value l h = absurd (omega arith)
 value_small len value l h = omega arith
 
 size_fits : (size : Size) (value : ℕ) → value < 256 ^ byte_count size → value < 16 ^ (2 * byte_count size)
-size_fits One value h = omega arith
-size_fits size value h = omega arith
+size_fits size value h = grind arith
 
 width_fits : (width : Width) (value : ℕ) → value < 2 ^ bits_of width → value < 16 ^ (bits_of width / 4)
-width_fits widths.Four value h = omega arith
-width_fits width value h = omega arith
+width_fits width value h = grind arith
 
 second_small : (wide : Bool) (value : ℕ) → value < 2 ^ second_bits wide → value ≤ 2 ^ second_bits wide - 1
-second_small true value h = omega arith
-second_small false value h = omega arith
+second_small wide value h = grind arith
 
 known_fits : (o : Option ℕ) → ForSome o (λ n. n < 2 ^ 16) → IsSome o → Fits (Known 65535) o
 known_fits o h k = (k, λ n e. let l = h n e in omega arith)
@@ -196,8 +191,7 @@ stp_fit (stp.NullStamp stamp) h k = (h, tt)
 
 -- the row makes the item of them
 bit_back : (flag : Bool) → (bit flag == 1) ≡ flag
-bit_back true = refl
-bit_back false = refl
+bit_back flag = search rules
 
 first_fits : (len value : ℕ) (change wrap : Bool) → IsProper (itm.GlobalFirst len value change wrap) →
     is_first len value change wrap ≡ true

@@ -1,6 +1,6 @@
 -- A line that says an item is the text of that item, with its digits in lower case.
-use Rattle.std.proofs.Common.{◌≡◌, ℕ, List, [], ◌∷◌, ◌++◌, length, map, refl, sym, ◌∙◌, ap, subst, arith, Bool, true}
-use Rattle.std.proofs.Common.{false, Some, Ok, Err, decimal, nat_lt, if◌then◌else◌}
+use Rattle.std.proofs.Common.{◌≡◌, ℕ, List, [], ◌∷◌, ◌++◌, length, map, refl, sym, ◌∙◌, ap, subst, arith, Bool}
+use Rattle.std.proofs.Common.{Some, Ok, Err, decimal, nat_lt, if◌then◌else◌}
 use Rattle.std.proofs.lemmas.List.{map-append}
 use Rattle.std.proofs.lemmas.List.Splits.{join_with_byte-slice_split}
 use Rattle.script_laws.specs.Names.{Plan, Shape, Item, Nothing, Of, LongLine, BadLine, are_printable, words_in}
@@ -60,11 +60,7 @@ line_words plan line id item e = by (nat_lt 256 (length line)) (is_nothing line)
   where
     by : (a b c d : Bool) → (if a then Err LongLine else (if b then Ok Nothing else (if c then (if d then line_of_words plan (words_in line) else Err BadLine) else Err BadLine))) ≡ Ok (Of id item) →
         line_of_words plan (words_in line) ≡ Ok (Of id item)
-    by true b c d e = cc
-    by false true c d e = cc
-    by false false true true e = e
-    by false false true false e = cc
-    by false false false d e = cc
+    by a b c d e = grind arith
 
 pub line_says : (plan : Plan) (line : List ℕ) (id : ℕ) (item : Item) → line_of plan line ≡ Ok (Of id item) →
     map lowered line ≡ decimal id ++ (32 ∷ text_of item)

@@ -1,6 +1,6 @@
 -- What a sound plan maps.
 use Rattle.std.proofs.Common.{◌≡◌, ℕ, ◌≤◌, List, [], ◌∷◌, ◌++◌, refl, sym, ◌∙◌, ap, subst, arith, Bool, true, false}
-use Rattle.std.proofs.Common.{Option, None, Some, ◌==◌, ◌&&◌, ◌||◌, not, nat_le, if◌then◌else◌}
+use Rattle.std.proofs.Common.{Option, None, Some, ◌==◌, ◌&&◌, ◌||◌, not, nat_le, if◌then◌else◌, rules}
 use Rattle.std.specs.List.{list_any}
 use Rattle.std.proofs.lemmas.Bool.Decides.{nat_tests}
 use Rattle.script_laws.specs.Names.{Plan, SourceKind, kind_of, are_sound, is_sound, in_order}
@@ -36,11 +36,7 @@ sound_first x ids e =
     record { low = grind (arith, nat_tests); high = grind (arith, nat_tests); once = not_true (is_one x ids) c.0; rest = c.1 }
   where
     assoc : (p q r s : Bool) → (((p && q) && r) && s) ≡ true → (p && (q && (r && s))) ≡ true
-    assoc true true true true e = e
-    assoc true true true false e = e
-    assoc true true false s e = e
-    assoc true false r s e = e
-    assoc false q r s e = e
+    assoc p q r s e = grind arith
 
     by : are_sound (x ∷ ids) ≡ true → (nat_le 1 x && (nat_le x 111 && (not (is_one x ids) && are_sound ids))) ≡ true
     by e = assoc (nat_le 1 x) (nat_le x 111) (not (is_one x ids)) (are_sound ids) e
@@ -90,9 +86,7 @@ KindSays (Some Stp) a b = (a ≡ false) × (b ≡ true)
 KindSays None a b = (a ≡ false) × (b ≡ false)
 
 kind_says : (a b : Bool) → KindSays (kind_by a b) a b
-kind_says true b = refl
-kind_says false true = (refl, refl)
-kind_says false false = (refl, refl)
+kind_says a b = search rules
 
 pub lists_by : (plan : Plan) (x : ℕ) (kind : Option SourceKind) → kind_of plan x ≡ kind →
     KindSays kind (is_one x plan.itm) (is_one x plan.stp)

@@ -1,7 +1,6 @@
 -- The text of an item reads back as that item.
 use Rattle.std.proofs.Common.{◌≡◌, ℕ, ◌<◌, ◌≤◌, ◌^◌, List, [], ◌∷◌, ◌++◌, length, length-append, refl, sym, ◌∙◌, ap}
-use Rattle.std.proofs.Common.{arith, true, Some, subst, decimal, codes, nat_le}
-use Rattle.std.proofs.lemmas.Bool.Decides.{nat_tests}
+use Rattle.std.proofs.Common.{arith, true, Some, subst, decimal, codes}
 use Rattle.std.proofs.lemmas.Fmt.{length-decimal-le}
 use Rattle.hex.specs.Hex.{encode_lower, lower_digits}
 use Rattle.hex.proofs.HexLemmas.{length-encode_with}
@@ -66,12 +65,11 @@ text_reads plan id item low high say =
     let small : id < 2 ^ 64 = omega arith in
     let begins : BeginsWithNumber (decimal id ++ (32 ∷ text_of item)) id (text_of item) =
     record { all = refl; graphic = word_graphic (decimal id) (decimal_word id small) } in
-    let number : nat_le id 126 ≡ true = grind (arith, nat_tests) in
     let few = few_words item in
     let says = subst (λ (l : List ℕ). SaysItem l item) (sym (text_joined item say))
     (joined_says (words_of item) (shape_of item) item few.0 few.1 (words_all item say) (named item)
     (item_reads item say)) in
     let short = line_short id item high say in
     line_says plan (decimal id ++ (32 ∷ text_of item)) id item (taken_by (kind_of plan id) id item) (omega arith)
-    (item_of_line (decimal id ++ (32 ∷ text_of item)) (text_of item) id id item low high begins (rw number refl) says)
+    (item_of_line (decimal id ++ (32 ∷ text_of item)) (text_of item) id id item (refl, low, high) begins says)
     refl

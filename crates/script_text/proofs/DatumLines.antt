@@ -1,10 +1,9 @@
 -- Lines of data that are read from their bytes: their words, and what they say.
 use Rattle.std.proofs.Common.{◌≡◌, ℕ, ◌+◌, ◌-◌, ◌/◌, ◌<◌, ◌≤◌, ◌^◌, List, [], ◌∷◌, ◌++◌, length, take, drop, refl, sym}
-use Rattle.std.proofs.Common.{◌∙◌, ap, subst, arith, Bool, true, false, Some, slice_index, codes, decimal, option_map}
+use Rattle.std.proofs.Common.{◌∙◌, ap, subst, arith, Bool, true, Some, slice_index, codes, decimal, option_map, rules}
 use Rattle.std.specs.Str.Parse.{AllDigits}
 use Rattle.script_text.specs.Names.{Width, Stamp, StpItem, bits_of, width_text, mark_text}
 use Rattle.decimal_words.proofs.Numbers.{decimal_digits, names_number}
-use Rattle.stp_grammar.specs.declared.packet.Width.TheVariants.{Four, Eight, Sixteen, ThirtyTwo, SixtyFour}
 use Rattle.stp_grammar.specs.declared.item.Stamp.TheVariants.{Natural}
 use Rattle.stp_grammar.specs.declared.item.StpItem.TheVariants as stp
 use Rattle.script_text.specs.declared.shapes.Shape.TheVariants as shapes
@@ -47,12 +46,7 @@ words_of master channel width digits marked stamp =
 datum_shape : (master channel digits stamp : List ℕ) (width : Width) (marked : Bool) →
     shape_named (words_of master channel width digits marked stamp) ≡ Some (shapes.Stp (stp_shapes.Datum width marked))
 unfolding shape_named
-datum_shape master channel digits stamp Four true = refl
-datum_shape master channel digits stamp Eight true = refl
-datum_shape master channel digits stamp Sixteen true = refl
-datum_shape master channel digits stamp ThirtyTwo true = refl
-datum_shape master channel digits stamp SixtyFour true = refl
-datum_shape master channel digits stamp width marked = refl
+datum_shape master channel digits stamp width marked = search rules
 
 abbrev datum : ℕ → ℕ → Width → ℕ → Bool → Stamp → StpItem
 datum master channel width value marked stamp =
@@ -71,13 +65,10 @@ datum_item master channel value digits word width marked stamp h l e s =
     rw (m, c, e, s) refl
 
 width_is_word : (width : Width) → is_word (width_text width) ≡ true
-width_is_word Four = refl
-width_is_word SixtyFour = refl
-width_is_word width = refl
+width_is_word width = search rules
 
 mark_is_word : (marked : Bool) → is_word (mark_text marked) ≡ true
-mark_is_word true = refl
-mark_is_word false = refl
+mark_is_word marked = search rules
 
 pub datum_says : (line first second third fourth word : List ℕ) (master channel count value : ℕ) (width : Width)
     (marked : Bool) (stamp : Stamp) → master ≤ 2 ^ 16 - 1 → channel ≤ 2 ^ 16 - 1 →

@@ -1,8 +1,8 @@
 -- Lines that are read from their bytes: their words, and what they say.
 use Rattle.std.proofs.Common.{◌≡◌, ℕ, zero, suc, append_assoc, length-append, ◌+◌, ◌-◌, ◌*◌, ◌<◌, ◌≤◌, ◌^◌, List, []}
 use Rattle.std.proofs.Common.{◌∷◌, ◌++◌, length, take, drop, refl, sym, ◌∙◌, ap, subst, arith, Bool, true, false, Some}
-use Rattle.std.proofs.Common.{None, Option, Ok, Err, Result, slice_index, ◌==◌, nat_lt, nat_le, codes, decimal, ok_or}
-use Rattle.std.proofs.Common.{OnOk, if◌then◌else◌}
+use Rattle.std.proofs.Common.{Option, Ok, Err, Result, slice_index, ◌==◌, nat_lt, codes, decimal, ok_or}
+use Rattle.std.proofs.Common.{OnOk, if◌then◌else◌, rules}
 use Rattle.std.specs.List.{list_all, AllPass}
 use Rattle.std.proofs.lemmas.List.Elements.{All-head, All-tail}
 use Rattle.hex.specs.Hex.{is_hex_digit}
@@ -29,7 +29,7 @@ use Rattle.script_text.specs.Numbers.{hexadecimal_named}
 use Rattle.script_text.specs.Shapes.{shape_named}
 use Rattle.script_text.specs.Items.{itm_of, item_of}
 use Rattle.script_text.specs.Bytes.{bytes_named}
-use Rattle.script_text.specs.Lines.{taken_by, is_nothing, line_of_words, line_of_printable, line_of, answer}
+use Rattle.script_text.specs.Lines.{taken_by, is_nothing, line_of_words, by_words, line_of, answer}
 use Rattle.script_text.specs.Lines.{◌>>=◌ as ◌>>ₗ◌}
 use Rattle.script_text.specs.Quick.{BeginsWith, BeginsWithNumber, BeginsWithDigits, SaysPacket, SaysItem, SaysFirst}
 use Rattle.script_text.specs.Quick.{IsItemOf, IsFirstLine}
@@ -154,8 +154,7 @@ port_words port size digits = codes "port" ∷ (decimal port ∷ (size_word size
 port_shape : (port : ℕ) (size : Size) (digits : List ℕ) →
     shape_named (port_words port size digits) ≡ Some (shapes.Itm (itm_shapes.Software size))
 unfolding shape_named
-port_shape port One digits = refl
-port_shape port size digits = refl
+port_shape port size digits = search rules
 
 port_item : (size : Size) (port v : ℕ) (digits : List ℕ) → port ≤ 31 →
     hexadecimal_named (2 * byte_count size) digits ≡ Some v →
@@ -167,12 +166,10 @@ port_item size port v digits h e =
     rw (n, e) refl
 
 size_is_word : (size : Size) → is_word (size_word size) ≡ true
-size_is_word One = refl
-size_is_word size = refl
+size_is_word size = search rules
 
 digits_some : (size : Size) (digits : List ℕ) → length digits ≡ 2 * byte_count size → 0 < length digits
-digits_some One digits e = omega arith
-digits_some size digits e = omega arith
+digits_some size digits e = grind arith
 
 software_says : (line rest digits : List ℕ) (port : ℕ) (size : Size) (v : ℕ) → port ≤ 31 →
     BeginsWithNumber line port rest → BeginsWith rest (size_word size) digits →
@@ -269,13 +266,6 @@ raw_says line digits bytes is e =
     (both _ _ word refl) (raw_shape digits) (rw e refl))
 
 -- a whole line
-named_is : (number id : ℕ) → Some id ≡ (if nat_le number 126 then Some number else None) → id ≡ number
-named_is number id e = by (nat_le number 126) e
-  where
-    by : (v : Bool) → Some id ≡ (if v then Some number else None) → id ≡ number
-    by true e = cc
-    by false e = cc
-
 other_than_remark : (c : ℕ) → digit_value c < 10 → (c == 35) ≡ false
 other_than_remark c h = grind (arith, nat_tests)
 
@@ -294,11 +284,10 @@ first_word : (word : List ℕ) (words : List (List ℕ)) → 0 < length word →
     are_words 0 (word ∷ words) ≡ true
 first_word word words l m = let a : nat_lt 0 (length word) ≡ true = grind (arith, nat_tests) in rw a m
 
-pub item_of_line : (line rest : List ℕ) (number id : ℕ) (item : Item) → 1 ≤ number → number ≤ 126 →
-    BeginsWithNumber line number rest →
-    Some id ≡ (if nat_le number 126 then Some number else None) → SaysItem rest item → IsItemOf line id item
-item_of_line line rest number id item l h b e s =
-    subst (λ (id : ℕ). IsItemOf line id item) (sym (named_is number id e)) (record {
+pub item_of_line : (line rest : List ℕ) (number id : ℕ) (item : Item) → (id ≡ number) × (1 ≤ number) × (number ≤ 126) →
+    BeginsWithNumber line number rest → SaysItem rest item → IsItemOf line id item
+item_of_line line rest number id item (e, l, h) b s =
+    subst (λ (id : ℕ). IsItemOf line id item) (sym e) (record {
       some = some_line line rest number (omega arith) b;
       printable = (parted line (decimal number) rest b).printable ∙ s.printable;
       words = ap (are_words 0) (parted line (decimal number) rest b).words
@@ -309,12 +298,11 @@ item_of_line line rest number id item l h b e s =
     })
 
 -- and the first line of a piece
-pub first_line : (piece rest after : List ℕ) (number : ℕ) (line : PacketLine) → 1 ≤ number → number ≤ 126 →
-    BeginsWithNumber piece number rest →
-    Some line.id ≡ (if nat_le number 126 then Some number else None) → SaysFirst rest line.packet after →
-    line.bytes ≡ length piece - length after - 1 → line.bytes ≤ 256 →
+pub first_line : (piece rest after : List ℕ) (number : ℕ) (line : PacketLine) →
+    (line.id ≡ number) × (1 ≤ number) × (number ≤ 126) → BeginsWithNumber piece number rest →
+    SaysFirst rest line.packet after → line.bytes ≡ length piece - length after - 1 → line.bytes ≤ 256 →
     IsFirstLine piece line
-first_line piece rest after number line l h b e s n few =
+first_line piece rest after number line id b s n few =
     let text = decimal number ++ 32 ∷ s.text in
     let all : piece ≡ text ++ 10 ∷ after = b.all ∙ ap (λ (r : List ℕ). decimal number ++ 32 ∷ r) s.all
     ∙ sym (append_assoc (decimal number) (32 ∷ s.text) (10 ∷ after)) in
@@ -326,15 +314,15 @@ first_line piece rest after number line l h b e s n few =
       all = all;
       bytes = bytes;
       few = omega arith;
-      says = item_of_line text s.text number line.id (items.Itm line.packet) l h
-          (record { all = refl; graphic = b.graphic }) e s.says;
+      says = item_of_line text s.text number line.id (items.Itm line.packet) id
+          (record { all = refl; graphic = b.graphic }) s.says;
     }
 
 -- and its reading
 pub printable_says : (plan : Plan) (line : List ℕ) (id : ℕ) (item : Item) (r : Result Line LineFault) →
     IsItemOf line id item →
     taken_by (kind_of plan id) id item ≡ r →
-    (if are_printable line then line_of_printable plan line else Err BadLine) ≡ r
+    by_words (line_of_words plan) line ≡ r
 printable_says plan line id item r p e = by (are_printable line) (are_words 0 (words_in line)) p.printable p.words
     ∙ p.said plan ∙ e
   where
@@ -354,7 +342,7 @@ line_says plan line id item r few p e =
     by (nat_lt 256 (length line)) (is_nothing line) short p.some ∙ printable_says plan line id item r p e
   where
     printable : Result Line LineFault
-    printable = if are_printable line then line_of_printable plan line else Err BadLine
+    printable = by_words (line_of_words plan) line
 
     by : (a b : Bool) → a ≡ false → b ≡ false →
         (if a then Err LongLine else (if b then Ok Nothing else printable)) ≡ printable

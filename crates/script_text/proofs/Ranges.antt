@@ -5,13 +5,11 @@ use Rattle.std.specs.Option.{ForSome}
 use Rattle.std.proofs.lemmas.Bool.Decides.{nat_tests}
 use Rattle.script_text.specs.Names.{IsProper, first_bits, second_bits, byte_count, Size, ItmPacket, IsInRange, DwtItem}
 use Rattle.script_text.specs.Names.{bits_of, IsProperStamp, IsProperItem, Width, Stamp, StpItem}
-use Rattle.itm_grammar.specs.declared.packet.Size.TheVariants.{One}
 use Rattle.itm_grammar.specs.declared.packet.ItmPacket.TheVariants as itm
 use Rattle.dwt_packets.specs.Packet.{IsProperItem as IsProperDwt}
 use Rattle.dwt_packets.specs.Table.{name}
 use Rattle.dwt_packets.specs.declared.item.DwtItem.TheVariants as dwt
 use Rattle.dwt_packets.proofs.Inverses.{proper}
-use Rattle.stp_grammar.specs.declared.packet.Width.TheVariants as widths
 use Rattle.stp_grammar.specs.declared.item.Stamp.TheVariants.{None as NoStamp, Natural, Gray, Raw}
 use Rattle.stp_grammar.specs.declared.item.StpItem.TheVariants as stp
 use Rattle.script_text.specs.declared.itm_shapes.ItmShape.{ItmShape}
@@ -31,16 +29,13 @@ use Rattle.script_text.proofs.Options.{bind_some, some_of, chosen_some}
 use Rattle.script_text.proofs.Fields.{values_fit}
 
 pub value_small : (size : Size) (v : ℕ) → v < 16 ^ (2 * byte_count size) → v < 256 ^ byte_count size
-value_small One v h = omega arith
-value_small size v h = omega arith
+value_small size v h = grind arith
 
 width_small : (width : Width) (v : ℕ) → v < 16 ^ (bits_of width / 4) → v < 2 ^ bits_of width
-width_small widths.Four v h = omega arith
-width_small width v h = omega arith
+width_small width v h = grind arith
 
 second_proper : (wide : Bool) (value : ℕ) → value ≤ 2 ^ second_bits wide - 1 → value < 2 ^ second_bits wide
-second_proper true value h = omega arith
-second_proper false value h = omega arith
+second_proper wide value h = grind arith
 
 first_true : (len value : ℕ) (change wrap : Bool) → is_first len value change wrap ≡ true → (0 < len) × (len ≤ 4)
     × (value < 2 ^ first_bits len)

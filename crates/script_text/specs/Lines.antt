@@ -67,14 +67,15 @@ abbrev pub is_nothing : List ℕ → Bool
 is_nothing [] = true
 is_nothing (b ∷ line) = b == 35
 
-abbrev pub line_of_printable : Plan → List ℕ → Result Line LineFault
-line_of_printable plan line =
-    if are_words 0 (words_in line) then line_of_words plan (words_in line) else Err BadLine
+-- what the words of a line say, where it has words of printable bytes
+abbrev pub by_words : {T : Type 0} → (List (List ℕ) → Result T LineFault) → List ℕ → Result T LineFault
+by_words said line =
+    if are_printable line then (if are_words 0 (words_in line) then said (words_in line) else Err BadLine)
+    else Err BadLine
 
 -- what a line without its line feed says, or its first fault
 unfoldable pub line_of : Plan → List ℕ → Result Line LineFault
 line_of plan line =
     if nat_lt 256 (length line) then Err LongLine
     else if is_nothing line then Ok Nothing
-    else if are_printable line then line_of_printable plan line
-    else Err BadLine
+    else by_words (line_of_words plan) line

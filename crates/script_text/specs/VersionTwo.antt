@@ -8,9 +8,9 @@ use Rattle.script_text.specs.declared.version_two.Line2.{Line2}
 use Rattle.script_text.specs.declared.version_two.Line2.TheVariants.{One, Flush, Trigger}
 use Rattle.script_text.specs.declared.line_fault.LineFault.{LineFault}
 use Rattle.script_text.specs.declared.line_fault.LineFault.TheVariants.{LongLine, BadLine, BadId, BadNumber, Mixed}
-use Rattle.script_text.specs.Words.{are_printable, words_in, are_words, word_of}
+use Rattle.script_text.specs.Words.{word_of}
 use Rattle.script_text.specs.Numbers.{hexadecimal_at}
-use Rattle.script_text.specs.Lines.{◌>>=◌, is_nothing, line_of_words}
+use Rattle.script_text.specs.Lines.{◌>>=◌, is_nothing, by_words, line_of_words}
 use Rattle.script_text.specs.Said.{IsSaid}
 
 -- the line that ends a segment
@@ -39,18 +39,13 @@ as_one said = said >>= λ line. Ok (One line)
 abbrev pub line2_of_words : Plan → List (List ℕ) → Result Line2 LineFault
 line2_of_words plan words = if is_trigger words then trigger_said words else as_one (line_of_words plan words)
 
-abbrev pub line2_of_printable : Plan → List ℕ → Result Line2 LineFault
-line2_of_printable plan line =
-    if are_words 0 (words_in line) then line2_of_words plan (words_in line) else Err BadLine
-
 -- what a line without its line feed says, or its first fault
 unfoldable pub line2_of : Plan → List ℕ → Result Line2 LineFault
 line2_of plan line =
     if nat_lt 256 (length line) then Err LongLine
     else if bytes_eq flush_line line then Ok Flush
     else if is_nothing line then Ok (One Nothing)
-    else if are_printable line then line2_of_printable plan line
-    else Err BadLine
+    else by_words (line2_of_words plan) line
 
 -- what lines of version 2 say is in its ranges, and of a source for it
 abbrev pub IsSaid2 : Plan → Line2 → Type 0

@@ -1,10 +1,10 @@
 //! The lines of scripts (this project's profile).
 
-ghost use Rattle.std.specs.Prelude.{◌≡◌, Err, IfOk, OnErr, OnOk, if◌then◌else◌};
+ghost use Rattle.std.specs.Prelude.{◌≡◌, Err, IfOk, OnErr, OnOk};
 ghost use Rattle.script_text.specs.Names.{kind_of};
-ghost use Rattle.script_text.specs.Words.{texts, are_printable};
+ghost use Rattle.script_text.specs.Words.{texts};
 ghost use Rattle.script_text.specs.Lines.{taken_by, line_of_shape, line_of_words as line_in, line_of};
-ghost use Rattle.script_text.specs.Lines.{line_of_printable, answer};
+ghost use Rattle.script_text.specs.Lines.{by_words, line_of_words, answer};
 ghost use Rattle.script_text.specs.Said.{IsSaid};
 
 use crate::dwt_shapes::dwt_of;
@@ -123,8 +123,7 @@ fn read_words(plan: &Plan, words: &[&[u8]], said: &mut Line) -> Result<(), LineF
 /// What a line of words says, which are printable and between single spaces. At a fault `said` is as before.
 #[inline(never)]
 fn read_printable(line: &[u8], plan: &Plan, said: &mut Line) -> Result<(), LineFault>
-    ensures value { (if are_printable line.now then line_of_printable plan.now line.now
-        else Err LineFault.BadLine) ≡ answer result said.new }
+    ensures value { by_words (line_of_words plan.now) line.now ≡ answer result said.new }
     ensures said { OnOk result (IsSaid plan.now said.new) }
     ensures same { OnErr result (said.new ≡ said.old) }
 {

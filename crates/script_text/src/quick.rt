@@ -41,6 +41,17 @@ pub fn number_word(line: &[u8]) -> Option<(u8, &[u8])>
     Some((third, &line[4..]))
 }
 
+/// The source of this number, 1 to 126.
+#[inline(always)]
+pub fn source_of(number: u8) -> Option<SourceId>
+    ensures { IfSome result (λ id. (id ≡ number) × (1 ≤ number) × (number ≤ 126)) }
+{
+    if number < 1 {
+        return None;
+    }
+    SourceId::new(number)
+}
+
 /// The word of a size that a line begins with, the space after it, and the rest.
 #[inline(always)]
 fn size_word(line: &[u8]) -> Option<(Size, &[u8])>
@@ -141,10 +152,7 @@ pub fn quick_raw(line: &[u8]) -> Option<(SourceId, RawBytes)>
     ensures { IfSome result (λ p. IsItemOf line.now p.0 (Raw p.1)) }
 {
     let (number, rest) = number_word(line)?;
-    if number < 1 || number > 126 {
-        return None;
-    }
-    let id = SourceId::new(number)?;
+    let id = source_of(number)?;
     let digits = raw_word(rest)?;
     let bytes = bytes_named(digits)?;
     Some((id, bytes))
@@ -166,10 +174,7 @@ pub fn packet_line(piece: &[u8]) -> Option<PacketLine>
     ensures { IfSome result (IsFirstLine piece.now) }
 {
     let (number, rest) = number_word(piece)?;
-    if number < 1 || number > 126 {
-        return None;
-    }
-    let id = SourceId::new(number)?;
+    let id = source_of(number)?;
     let (packet, after) = packet_in(rest)?;
     let bytes = piece.len() - after.len() - 1;
     if bytes > LINE_BYTES {

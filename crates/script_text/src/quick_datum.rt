@@ -5,7 +5,7 @@ ghost use Rattle.script_text.specs.Names.{mark_text, width_text};
 ghost use Rattle.script_text.specs.Quick.{BeginsWith, BeginsWithDigits, IsItemOf, IsStamp, SaysItem};
 ghost use Rattle.script_text.specs.declared.items.Item.TheVariants.{Stp};
 
-use crate::quick::{digits_word, number_word};
+use crate::quick::{digits_word, number_word, source_of};
 use crate::stp_shapes::digits_of;
 use decimal_words::number_in;
 use stp_grammar::item::{Place, Stamp, StpItem};
@@ -102,10 +102,7 @@ pub fn quick_datum(line: &[u8]) -> Option<(SourceId, StpItem)>
     ensures { IfSome result (λ p. IsItemOf line.now p.0 (Stp p.1)) }
 {
     let (number, rest) = number_word(line)?;
-    if number < 1 || number > 126 {
-        return None;
-    }
-    let id = SourceId::new(number)?;
+    let id = source_of(number)?;
     let item = item_in(rest)?;
     Some((id, item))
 }

@@ -254,7 +254,7 @@ module _ (old new : SourceCounts) (frames : List (List Cell)) (cs : List Cell) (
   all_push : all_cells (frames ++ cs ∷ []) ≡ all_cells frames ++ cs
   all_push = flat_map-append (λ (c : List Cell). c) frames (cs ∷ []) ∙ ap (λ (x : List Cell). all_cells frames ++ x) (append-nil cs)
 
-  pub bytes_counted : HasBytes old frames → (id : ℕ) → id ≤ 126 → slice_index new.bytes id ≡ bytes_of id (frames ++ cs ∷ [])
+  bytes_counted : HasBytes old frames → (id : ℕ) → id ≤ 126 → slice_index new.bytes id ≡ bytes_of id (frames ++ cs ∷ [])
   bytes_counted s id h =
       let a : bytes_of id (frames ++ cs ∷ []) ≡ bytes_of id frames + length (source_list id cs) =
       ap (λ (x : List Cell). length (source_list id x)) all_push ∙ ap length (filter-append (λ (x : Cell). is_source id x.id) (all_cells frames) cs) ∙ length-append (source_list id (all_cells frames)) (source_list id cs) in
@@ -265,14 +265,18 @@ module _ (old new : SourceCounts) (frames : List (List Cell)) (cs : List Cell) (
       let a : items_of id (frames ++ cs ∷ []) ≡ items_of id frames + frame_items id cs = sum_by_push (frame_items id) frames cs in
       let b = l.items id in let c = s id h in let z = none_items id None in omega arith
 
-  pub unattributed_counted : HasBytes old frames → new.unattributed ≡ unattributed_of (frames ++ cs ∷ [])
+  unattributed_counted : HasBytes old frames → new.unattributed ≡ unattributed_of (frames ++ cs ∷ [])
   unattributed_counted s =
       let a : unattributed_of (frames ++ cs ∷ []) ≡ unattributed_of frames + count_by (λ x. is_none x.id) cs =
       ap (count_by (λ x. is_none x.id)) all_push ∙ sum_by-append (λ x. cond (is_none x.id) 1 0) (all_cells frames) cs in
       let b = l.unattributed in let c = s.unattributed in omega arith
 
-  pub frames_counted : HasBytes old frames → new.frames + 1 ≡ length (frames ++ cs ∷ [])
+  frames_counted : HasBytes old frames → new.frames + 1 ≡ length (frames ++ cs ∷ [])
   frames_counted s = let a = length_push frames cs in let b = l.frames in let c = s.frames in omega arith
+
+  pub has_bytes : (fewer : (id : ℕ) → slice_index new.items id ≤ slice_index new.bytes id) → HasBytes old frames →
+      HasBytes (record new { frames = new.frames + 1; fewer = fewer }) (frames ++ cs ∷ [])
+  has_bytes fewer s = record { bytes = bytes_counted s; unattributed = unattributed_counted s; frames = frames_counted s }
 
 -- after this many pairs of a frame
 pub record IsGoing (old now : SourceCounts) (frame : List ℕ) (before : Option ℕ) (k code pending : ℕ) : Type 0 where

@@ -9,7 +9,7 @@ use Rattle.trace_stream.specs.declared.outcome.Outcome.{Outcome}
 use Rattle.trace_stream.specs.declared.outcome.Outcome.TheVariants.{AtEnd, FaultFound, ReadFailed, WriteFailed, OverLimit}
 use Rattle.trace_stream.specs.BuffersState.{BuffersState}
 use Rattle.trace_stream.specs.Pumped.{HasPumped}
-use Rattle.trace_stream.specs.Served.{Meaning, IsLawful, Ends, IsAllRead, ServedBy, HasServed, text_at_stop}
+use Rattle.trace_stream.specs.Served.{Meaning, IsLawful, Ends, IsAllRead, ServedBy, FedBy, HasServed, text_at_stop}
 
 -- the output went on after the reading
 abbrev pub written : Ends → Option (List ℕ) → Ends
@@ -36,21 +36,47 @@ module _ (stands there : List ℕ → Type 0) (keeps : (seen : List ℕ) → sta
   abbrev Pumped : Outcome → Type 0
   Pumped result = HasPumped stands m limit old new buffers result
 
+  -- all bytes that were read were fed
+  of_seen : (result : Outcome) (pumped : Pumped result) (out : List ℕ) → pumped.extra ≡ [] → stands pumped.seen →
+      Appends old.held held out → (by : ServedBy m limit new.left result pumped.seen out buffers.recent) →
+      FedBy m limit new.left result pumped.seen out buffers.recent by pumped.seen → (result ≡ AtEnd → IsAtEnd new.left) →
+      Served result
+  of_seen result pumped out none read put by feeds ended = record {
+    bytes = pumped.seen;
+    out = out;
+    lost = subst (Consumes old.left new.left) (ap (λ l. pumped.seen ++ l) none ∙ append-nil pumped.seen) pumped.lost;
+    gained = put;
+    at_most = omega (arith, pumped.within);
+    outcome = by;
+    ended = ended;
+    fed = pumped.seen;
+    feeds = feeds;
+    holds = keeps pumped.seen read;
+  }
+
+  -- and extra bytes were only read
+  with_extra : {how : Outcome} (result : Outcome) (pumped : Pumped how) (out : List ℕ) → stands pumped.seen →
+      Appends old.held held out →
+      (by : ServedBy m limit new.left result (pumped.seen ++ pumped.extra) out buffers.recent) →
+      FedBy m limit new.left result (pumped.seen ++ pumped.extra) out buffers.recent by pumped.seen →
+      (result ≡ AtEnd → IsAtEnd new.left) → Served result
+  with_extra result pumped out read put by feeds ended = record {
+    bytes = pumped.seen ++ pumped.extra;
+    out = out;
+    lost = pumped.lost;
+    gained = put;
+    at_most = omega (arith, pumped.at_most, length-append pumped.seen pumped.extra);
+    outcome = by;
+    ended = ended;
+    fed = pumped.seen;
+    feeds = feeds;
+    holds = keeps pumped.seen read;
+  }
+
   -- at the input's end
   pub served_at_end : (pumped : Pumped AtEnd) → Appends old.held held (m.text pumped.seen ++ m.ending pumped.seen) →
       Served AtEnd
-  served_at_end pumped put = record {
-    bytes = pumped.seen;
-    out = m.text pumped.seen ++ m.ending pumped.seen;
-    lost = subst (Consumes old.left new.left) (ap (λ l. pumped.seen ++ l) pumped.outcome.1 ∙ append-nil pumped.seen) pumped.lost;
-    gained = put;
-    at_most = omega (arith, pumped.within);
-    outcome = (pumped.outcome.0.fault, pumped.within, refl);
-    ended = λ e. pumped.outcome.2;
-    fed = pumped.seen;
-    feeds = refl;
-    holds = keeps pumped.seen pumped.outcome.0.read;
-  }
+  served_at_end pumped put = of_seen AtEnd pumped _ pumped.outcome.1 pumped.outcome.0.read put (pumped.outcome.0.fault, pumped.within, refl) refl (λ e. pumped.outcome.2)
 
   -- at a stop
   pub served_stopped : IsLawful m → (pumped : Pumped FaultFound) →
@@ -60,34 +86,14 @@ module _ (stands there : List ℕ → Type 0) (keeps : (seen : List ℕ) → sta
       let front = first_bytes limit pumped.seen pumped.extra pumped.within in
       let same_text : m.text (take limit (pumped.seen ++ pumped.extra)) ≡ m.text pumped.seen = ap m.text front ∙ lawful.text_stays pumped.seen more pumped.outcome.0.fault.broken in
       let same_ending : m.ending (take limit (pumped.seen ++ pumped.extra)) ≡ m.ending pumped.seen = ap m.ending front ∙ lawful.ending_stays pumped.seen more pumped.outcome.0.fault.broken in
-      record {
-        bytes = pumped.seen ++ pumped.extra;
-        out = m.text pumped.seen ++ m.ending pumped.seen;
-        lost = pumped.lost;
-        gained = put;
-        at_most = omega (arith, pumped.at_most, length-append pumped.seen pumped.extra);
-        outcome = (record { seen = pumped.seen; rest = more; parts = front; certain = pumped.outcome.0.fault; broken = subst m.faulty (sym front) (lawful.faulty_stays pumped.seen more pumped.outcome.0.fault.broken) }, cc, pumped.outcome.1);
-        ended = λ e. cc;
-        fed = pumped.seen;
-        feeds = refl;
-        holds = keeps pumped.seen pumped.outcome.0.read;
-      }
+      with_extra FaultFound pumped _ pumped.outcome.0.read put
+      (record { seen = pumped.seen; rest = more; parts = front; certain = pumped.outcome.0.fault; broken = subst m.faulty (sym front) (lawful.faulty_stays pumped.seen more pumped.outcome.0.fault.broken) }, cc, pumped.outcome.1)
+      refl (λ e. cc)
 
   -- where a read failed, with what was due
   pub served_read_failed : (pumped : Pumped ReadFailed) → Appends old.held held (text_at_stop m pumped.seen) →
       Served ReadFailed
-  served_read_failed pumped put = record {
-    bytes = pumped.seen;
-    out = text_at_stop m pumped.seen;
-    lost = subst (Consumes old.left new.left) (ap (λ l. pumped.seen ++ l) pumped.outcome.1 ∙ append-nil pumped.seen) pumped.lost;
-    gained = put;
-    at_most = omega (arith, pumped.within);
-    outcome = (pumped.outcome.0.fault, pumped.within, refl);
-    ended = λ e. cc;
-    fed = pumped.seen;
-    feeds = refl;
-    holds = keeps pumped.seen pumped.outcome.0.read;
-  }
+  served_read_failed pumped put = of_seen ReadFailed pumped _ pumped.outcome.1 pumped.outcome.0.read put (pumped.outcome.0.fault, pumped.within, refl) refl (λ e. cc)
 
   -- and where the limit was passed
   pub served_over_limit : (pumped : Pumped OverLimit) → Appends old.held held (text_at_stop m pumped.seen) →
@@ -95,35 +101,17 @@ module _ (stands there : List ℕ → Type 0) (keeps : (seen : List ℕ) → sta
   served_over_limit pumped put =
       let count : length pumped.seen ≡ limit = pumped.outcome.1 in
       let front = limit_is limit pumped.seen pumped.extra count in
-      record {
-        bytes = pumped.seen ++ pumped.extra;
-        out = text_at_stop m pumped.seen;
-        lost = pumped.lost;
-        gained = put;
-        at_most = omega (arith, pumped.at_most, length-append pumped.seen pumped.extra);
-        outcome = (subst (λ l. m.faulty l → ⊥) (sym front) pumped.outcome.0.fault, omega (arith, count, pumped.outcome.2, length-append pumped.seen pumped.extra), sym (ap (text_at_stop m) front));
-        ended = λ e. cc;
-        fed = pumped.seen;
-        feeds = sym front;
-        holds = keeps pumped.seen pumped.outcome.0.read;
-      }
+      with_extra OverLimit pumped _ pumped.outcome.0.read put
+      (subst (λ l. m.faulty l → ⊥) (sym front) pumped.outcome.0.fault, omega (arith, count, pumped.outcome.2, length-append pumped.seen pumped.extra), sym (ap (text_at_stop m) front))
+      (sym front) (λ e. cc)
 
   -- where a write failed
   write_failed : (how : Outcome) (pumped : Pumped how) → stands pumped.seen → (part : List ℕ)
       (prefix : AppendsPrefix old.held held part) →
       ServedBy m limit new.left WriteFailed (pumped.seen ++ pumped.extra) prefix.1.front buffers.recent → Served WriteFailed
-  write_failed how pumped read part prefix outcome = record {
-    bytes = pumped.seen ++ pumped.extra;
-    out = prefix.1.front;
-    lost = pumped.lost;
-    gained = prefix.1.took;
-    at_most = omega (arith, pumped.at_most, length-append pumped.seen pumped.extra);
-    outcome = outcome;
-    ended = λ e. cc;
-    fed = pumped.seen;
-    feeds = (take (limit - length pumped.seen) pumped.extra, first_bytes limit pumped.seen pumped.extra pumped.within);
-    holds = keeps pumped.seen read;
-  }
+  write_failed how pumped read part prefix outcome =
+      with_extra WriteFailed pumped _ read prefix.1.took outcome
+      (take (limit - length pumped.seen) pumped.extra, first_bytes limit pumped.seen pumped.extra pumped.within) (λ e. cc)
 
   -- some prefix of the text was written
   pub served_in_part : (how : Outcome) (pumped : Pumped how) → stands pumped.seen → (part : List ℕ) →

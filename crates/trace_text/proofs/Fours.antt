@@ -1,18 +1,9 @@
--- Numbers in decimal, four and eight digits at a time.
+-- Numbers in decimal, eight digits at a time.
 use Rattle.std.proofs.Common.{◌≡◌, ℕ, ◌/◌, ◌%◌, ◌^◌, ◌<◌, ◌≤◌, ◌++◌, arith}
 use Rattle.std.specs.Prelude.{decimal}
-use Rattle.itoa.proofs.Decimal.{decimal_pair}
-use Rattle.trace_text.specs.Pairs.{pair, four, eight}
+use Rattle.itoa.proofs.Decimal.{decimal_four}
+use Rattle.trace_text.specs.Pairs.{four, eight}
 use Rattle.trace_text.proofs.Putting.{joined}
-
-pub decimal_four : (n : ℕ) → 10000 ≤ n → n < 2 ^ 64 → decimal n ≡ decimal (n / 10000) ++ four (n % 10000)
-decimal_four n h l =
-    let a : n / 100 / 100 ≡ n / 10000 = omega arith in
-    let b : n / 100 % 100 ≡ n % 10000 / 100 = omega arith in
-    let d : n % 100 ≡ n % 10000 % 100 = omega arith in
-    let e : decimal n ≡ decimal (n / 100 / 100) ++ (pair (n / 100 % 100) ++ pair (n % 100)) =
-    joined _ _ _ _ _ (decimal_pair n (omega (arith, h)) l) (decimal_pair (n / 100) (omega (arith, h)) (omega (arith, l))) in
-    cc
 
 pub decimal_eight : (n : ℕ) → 100000000 ≤ n → n < 2 ^ 64 → decimal n ≡ decimal (n / 100000000) ++ eight (n % 100000000)
 decimal_eight n h l =

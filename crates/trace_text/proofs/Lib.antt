@@ -7,4 +7,3 @@ pub mod LongestLines
 pub mod Doubting
 pub mod SaidTables
 pub mod SaidTexts
-pub mod Widths

@@ -1,5 +1,5 @@
 -- How long lines are at most.
-use Rattle.std.proofs.Common.{◌≡◌, ℕ, zero, suc, ◌+◌, ◌-◌, ◌*◌, ◌/◌, ◌^◌, ◌≤◌, ◌<◌, List, [], ◌∷◌, ◌++◌, length, take, length-append, Bool, true, false, refl, ap, arith}
+use Rattle.std.proofs.Common.{◌≡◌, ℕ, zero, suc, ◌+◌, ◌-◌, ◌*◌, ◌/◌, ◌^◌, ◌≤◌, ◌<◌, List, [], ◌∷◌, ◌++◌, length, take, length-append, Bool, true, false, refl, ap, arith, rules}
 use Rattle.std.specs.Prelude.{codes, decimal, Option, None, Some, ◌==◌, nat_lt, if◌then◌else◌}
 use Rattle.std.specs.Option.{ForSome}
 use Rattle.std.specs.Fmt.{digits as fmt_digits}
@@ -14,12 +14,10 @@ use Rattle.hex.proofs.HexLemmas.{length-encode_with}
 use Rattle.itm_grammar.specs.declared.packet.Size.{Size}
 use Rattle.itm_grammar.specs.declared.packet.Size.TheVariants.{One, Two, Four}
 use Rattle.itm_grammar.specs.declared.packet.Lateness.{Lateness}
-use Rattle.itm_grammar.specs.declared.packet.Lateness.TheVariants.{Exact}
 use Rattle.itm_grammar.specs.declared.packet.ItmPacket.{ItmPacket}
 use Rattle.itm_grammar.specs.declared.packet.ItmPacket.TheVariants.{Sync, Overflow, Software, Hardware, Local, GlobalFirst, GlobalSecond, Extension}
 use Rattle.itm_grammar.specs.Proper.{IsProper, first_bits, second_bits}
 use Rattle.dwt_packets.specs.declared.item.Change.{Change}
-use Rattle.dwt_packets.specs.declared.item.Change.TheVariants.{Enter}
 use Rattle.dwt_packets.specs.declared.item.DwtItem.{DwtItem}
 use Rattle.dwt_packets.specs.declared.item.DwtItem.TheVariants.{Counters, Exception, Sample, Asleep, MatchPc, MatchAddress, Read, Written, Other}
 use Rattle.dwt_packets.specs.Table.{name}
@@ -33,9 +31,6 @@ use Rattle.stp_grammar.specs.declared.item.StpItem.{StpItem}
 use Rattle.stp_grammar.specs.declared.item.StpItem.TheVariants.{Async, Version, MasterError, GlobalError, Datum, Flag, Trigger as StpTrigger, Frequency, NullStamp}
 use Rattle.stp_grammar.specs.Proper.{bits_of, IsProperStamp, IsProperItem}
 use Rattle.trace_values.specs.declared.fault.Reason.{Reason}
-use Rattle.trace_values.specs.declared.fault.Reason.TheVariants.{BadSync, SyncInFrame, ReservedHeader, BadItmSync}
-use Rattle.trace_values.specs.declared.fault.Reason.TheVariants.{LongStamp, ShortStamp, Unsupported, StampSize}
-use Rattle.trace_values.specs.declared.fault.Reason.TheVariants.{BadAsync}
 use Rattle.trace_values.specs.Faults.{name_of, number_of}
 use Rattle.trace_values.specs.Placed.{Place}
 use Rattle.source_events.specs.declared.event.Event.{Event}
@@ -44,9 +39,7 @@ use Rattle.source_events.specs.declared.event.What.TheVariants.{Locked, Packet a
 use Rattle.source_events.specs.declared.packet.Packet.{Packet}
 use Rattle.source_events.specs.declared.packet.Packet.TheVariants.{Itm, Stp}
 use Rattle.source_events.specs.declared.plan.SourceKind.{SourceKind}
-use Rattle.source_events.specs.declared.plan.SourceKind.TheVariants.{Itm as Itm_kind, Stp as Stp_kind}
 use Rattle.source_events.specs.declared.port_mode.PortMode.{PortMode}
-use Rattle.source_events.specs.declared.port_mode.PortMode.TheVariants.{Bare}
 use Rattle.source_events.specs.declared.tails.SourceTail.{SourceTail}
 use Rattle.trace_clock.specs.LastWord.{nibble_count}
 use Rattle.trace_text.specs.Values.{value_text}
@@ -68,8 +61,7 @@ value Two v = omega (arith, length-append (codes "u16 ") (encode_lower (to_be_by
 value Four v = omega (arith, length-append (codes "u32 ") (encode_lower (to_be_bytes w32 v)), length-encode_with lower_digits (to_be_bytes w32 v))
 
 change : (c : Change) → length (change_text c) ≤ 7
-change Enter = omega arith
-change c = omega arith
+change c = search rules
 
 hardware : (item : DwtItem) → IsInRange item → length (hardware_text item) ≤ 27
 hardware (Counters counters) h = omega (arith, length-encode_with lower_digits (counters ∷ []))
@@ -85,21 +77,16 @@ hardware (Written comparator size v) h = simp length-append (omega (arith, lengt
 hardware (Other disc size v) h = simp length-append (omega (arith, length-decimal-le 2 disc (omega arith) (omega arith) (omega arith), value size v))
 
 lateness : (l : Lateness) → length (lateness_text l) ≤ 11
-lateness Exact = omega arith
-lateness l = omega arith
-
-by_flag : (text : Bool → List ℕ) (most : ℕ) → length (text true) ≤ most → length (text false) ≤ most → (b : Bool) → length (text b) ≤ most
-by_flag text most at_true at_false true = at_true
-by_flag text most at_true at_false false = at_false
+lateness l = search rules
 
 flag : (b : Bool) → length (flag_text b) ≤ 1
-flag = by_flag flag_text 1 (omega arith) (omega arith)
+flag b = search rules
 
 bits : (wide : Bool) → length (bits_text wide) ≤ 2
-bits = by_flag bits_text 2 (omega arith) (omega arith)
+bits wide = search rules
 
 owner : (dwt : Bool) → length (owner_text dwt) ≤ 3
-owner = by_flag owner_text 3 (omega arith) (omega arith)
+owner dwt = search rules
 
 -- a first global timestamp has at most 26 bits, and a second one 38
 few_bits : (len : ℕ) → len ≤ 4 → first_bits len ≤ 26
@@ -114,8 +101,7 @@ first_value len v h l =
     omega arith
 
 second_value : (wide : Bool) (v : ℕ) → v < 2 ^ second_bits wide → v < 2 ^ 38
-second_value true v h = h
-second_value false v h = omega arith
+second_value wide v h = grind arith
 
 pub item : (p : ItmPacket) → IsProper p → length (item_text p) ≤ 27
 item Sync h = omega arith
@@ -165,8 +151,7 @@ stamp (Gray time) h = let a = length-decimal-le 20 time (omega arith) (omega ari
 stamp (RawStamp size word) h = omega (arith, digits (nibble_count size) word, nibbles size)
 
 mark : (m : Bool) → length (mark_text m) ≤ 1
-mark true = omega arith
-mark false = omega arith
+mark m = search rules
 
 code : (n : ℕ) → length (encode_lower (n ∷ [])) ≡ 2
 code n = length-encode_with lower_digits (n ∷ [])
@@ -183,14 +168,10 @@ stp (Frequency hertz s) h = simp length-append (omega (arith, length-decimal-le 
 stp (NullStamp s) h = let e = stamp s h in omega arith
 
 source : (s : Option ℕ) → IsShortSource s → length (source_text s) ≤ 4
-source None h = omega arith
-source (Some id) h = omega arith
+source s h = grind arith
 
 beside : (r : Remark) → IsShortRemark r → length (remark_text r) ≤ 27
-beside NoRemark h = omega arith
-beside (Clock ticks) h = omega arith
-beside (Time (Some time)) h = omega arith
-beside (Time None) h = omega arith
+beside r h = grind arith
 
 nothing : (r : Remark) → IsNone r → length (remark_text r) ≤ 0
 nothing NoRemark h = omega arith
@@ -208,8 +189,7 @@ rest (Raw bytes) s r p u e a b c = omega (arith, source s b, length-encode_with 
 rest (Trigger byte) s r p u e a b c = omega (arith, source s b, code byte, nothing r u)
 
 half : (s : Bool) (h : ℕ) → HasDigits 3 h → length (half_text s h) ≤ 4
-half true h l = omega arith
-half false h l = omega arith
+half s h l = grind arith
 
 -- the line of an event
 pub event : (s : Bool) (e : Event Packet) (r : Remark) → IsPrintable e r → IsShort e → IsShortRemark r → length (event_line s e r) ≤ 92
@@ -238,27 +218,17 @@ raw_run at id bytes few a b = simp length-append (omega (arith, length-encode_wi
 
 reason : (r : Reason) → length (decimal (number_of r)) + length (name_of r) ≤ 15
 unfolding fmt_digits
-reason BadSync = omega arith
-reason SyncInFrame = omega arith
-reason ReservedHeader = omega arith
-reason BadItmSync = omega arith
-reason LongStamp = omega arith
-reason ShortStamp = omega arith
-reason Unsupported = omega arith
-reason StampSize = omega arith
-reason BadAsync = omega arith
+reason r = search rules
 
 -- the line of a fault
 pub fault : (s : Bool) (f : Place × (Reason × Option ℕ)) → IsShortFault f → length (fault_line s f) ≤ 92
 fault s f a = simp length-append (omega (arith, half s f.0.half a.half, source f.1.1 a.source, reason f.1.0, a.at))
 
 mode : (m : PortMode) → length (mode_text m) ≤ 7
-mode Bare = omega arith
-mode m = omega arith
+mode m = search rules
 
 kind : (k : SourceKind) → length (kind_text k) ≤ 3
-kind Itm_kind = omega arith
-kind Stp_kind = omega arith
+kind k = search rules
 
 -- the line at the end of a source
 pub source_end : (s : SourceTail) → HasDigits 3 s.id → HasDigits 20 s.skipped → HasDigits 20 s.tail → length (source_line s) ≤ 71

@@ -1,11 +1,10 @@
 -- The texts of what packets say, by their rows.
-use Rattle.std.proofs.Common.{◌≡◌, ℕ, ◌/◌, ◌^◌, ◌<◌, ◌≤◌, List, [], ◌∷◌, ◌++◌, length, true, false, Option, refl, sym, ◌∙◌, ap, append_assoc, arith}
+use Rattle.std.proofs.Common.{◌≡◌, ℕ, ◌/◌, ◌^◌, ◌<◌, ◌≤◌, List, [], ◌∷◌, ◌++◌, length, true, false, Option, refl, sym, ◌∙◌, ap, append_assoc, arith, rules}
 use Rattle.std.specs.Prelude.{codes, decimal, None, Some}
 use Rattle.std.specs.Option.{ForSome, is_some}
 use Rattle.std.specs.Int.{byte_at}
 use Rattle.std.proofs.Math.Nat.{pow-zero}
 use Rattle.hex.specs.Hex.{encode_lower}
-use Rattle.stp_grammar.specs.declared.packet.Width.TheVariants.{Four, Eight, Sixteen, ThirtyTwo, SixtyFour}
 use Rattle.stp_grammar.specs.declared.packet.Row.{Row}
 use Rattle.stp_grammar.specs.declared.packet.Row.TheVariants.{Datum, Flag, NullStamp, Trigger}
 use Rattle.stp_grammar.specs.declared.item.Place.{Place}
@@ -37,19 +36,8 @@ by_parts place stamp row v =
 pub written_text : (place : Place) (stamp : Stamp) (row : Row) (v : ℕ) → is_written row ≡ true → v < 16 ^ (line_of row).payload →
     by_parts place stamp row v ≡ said_text (item_with place stamp row v)
 unfolding hex_digits
-written_text place stamp (Datum Four true true) v e h = refl
-written_text place stamp (Datum Four false true) v e h = refl
-written_text place stamp (Datum Eight true true) v e h = refl
-written_text place stamp (Datum Eight false true) v e h = refl
-written_text place stamp (Datum Sixteen true true) v e h = refl
-written_text place stamp (Datum Sixteen false true) v e h = refl
-written_text place stamp (Datum ThirtyTwo true true) v e h = refl
-written_text place stamp (Datum ThirtyTwo false true) v e h = refl
-written_text place stamp (Datum SixtyFour true true) v e h = refl
-written_text place stamp (Datum SixtyFour false true) v e h = refl
-written_text place stamp (Datum width marked stamped) v e h = refl
-written_text place stamp (Flag true) v e h = refl
-written_text place stamp (Flag false) v e h = refl
+written_text place stamp (Datum width marked stamped) v e h = search rules
+written_text place stamp (Flag stamped) v e h = search rules
 written_text place stamp NullStamp v e h = refl
 written_text place stamp (Trigger true) v e h = ap (λ (l : List ℕ). codes "trig " ++ (l ++ (codes " " ++ stamp_text stamp))) (byte_digits v h)
 written_text place stamp (Trigger false) v e h = ap (λ (l : List ℕ). codes "trig " ++ (l ++ (codes " " ++ stamp_text stamp))) (byte_digits v h)

@@ -1,6 +1,6 @@
 //! The lines at the end.
 
-ghost use Rattle.std.specs.Prelude.{◌≡◌, ◌+◌, ◌*◌, ◌≤◌, ◌++◌, length};
+ghost use Rattle.std.specs.Prelude.{◌≡◌, ◌+◌, ◌*◌, ◌≤◌, ◌++◌, length, codes};
 ghost use Rattle.trace_text.specs.EndText.{mode_text, kind_text, rest_text, end_line, port_line, source_line};
 ghost use Rattle.trace_text.specs.EndText.{tails_text};
 ghost use Rattle.trace_text.specs.Puts.{Puts};
@@ -47,14 +47,14 @@ fn mode_word(mode: PortMode) -> &'static str
     }
 }
 
-/// The word of what a source sends.
-fn kind_word(kind: SourceKind) -> &'static str
-    ensures text { result.now ≡ kind_text kind }
-    ensures bound { length result.now ≤ WORD_ROOM }
+/// Puts what a source sends, between spaces.
+fn put_kind(room: &mut [u8], from: usize, kind: SourceKind) -> usize
+    requires room { from + WORD_ROOM ≤ length room.old }
+    ensures { Puts room.old room.new from result WORD_ROOM (codes " " ++ (kind_text kind ++ codes " ")) }
 {
     match kind {
-        SourceKind::Itm => "itm",
-        SourceKind::Stp => "stp",
+        SourceKind::Itm => put_bytes(room, from, b" itm "),
+        SourceKind::Stp => put_bytes(room, from, b" stp "),
     }
 }
 
@@ -94,9 +94,7 @@ impl Text for SourceEndLine {
     fn put(&self, room: &mut [u8], from: usize) -> usize {
         let source = self.source;
         let from = put_short(room, from, source.id.number());
-        let from = put_byte(room, from, b' ');
-        let from = put_slice(room, from, kind_word(source.kind).as_bytes());
-        let from = put_byte(room, from, b' ');
+        let from = put_kind(room, from, source.kind);
         let from = put_slice(room, from, mode_word(source.mode).as_bytes());
         let from = put_rest(room, from, source.skipped, source.tail);
         put_byte(room, from, b'\n')

@@ -11,17 +11,6 @@ use crate::room::{
 };
 use dwt_packets::{Change, DwtItem};
 
-fn change_word(change: Change) -> &'static str
-    ensures text { result.now ≡ change_text change }
-    ensures bound { length result.now ≤ WORD_ROOM }
-{
-    match change {
-        Change::Enter => " enter",
-        Change::Exit => " exit",
-        Change::Return => " return",
-    }
-}
-
 /// Puts the comparator, `cmp C`, and a word after it.
 #[inline]
 fn put_comparator(room: &mut [u8], from: usize, comparator: u8, word: &str) -> usize
@@ -42,7 +31,11 @@ fn put_exception(room: &mut [u8], from: usize, number: u16, change: Change) -> u
         (codes "exception " ++ (decimal number ++ change_text change)) }
 {
     let from = put_count(room, from, b"exception ", u64::from(number));
-    put_slice(room, from, change_word(change).as_bytes())
+    match change {
+        Change::Enter => put_bytes(room, from, b" enter"),
+        Change::Exit => put_bytes(room, from, b" exit"),
+        Change::Return => put_bytes(room, from, b" return"),
+    }
 }
 
 /// Puts the text of what a hardware packet means.

@@ -10,21 +10,19 @@ ghost use Rattle.trace_text.specs.Puts.{Puts, PutsAll};
 use crate::hardware::put_hardware;
 use crate::room::{
     ITEM_ROOM, PART_ROOM, WORD_ROOM, put_bytes, put_count, put_digits, put_entry, put_number,
-    put_port, put_short, put_slice, put_value,
+    put_part, put_port, put_short, put_slice, put_value,
 };
 use crate::tables::{BITS, FLAGS, LATENESS_LENS, LATENESSES};
 use dwt_packets::meaning;
 use itm_grammar::packet::{ItmPacket, Lateness, Size};
 
-/// Puts how late a local timestamp is, and a space after it. No branch depends on how long the word is.
+/// Puts `local`, how late a local timestamp is, and a space after it. No branch depends on how long the word is.
 #[inline(always)]
 fn put_lateness(room: &mut [u8], from: usize, lateness: Lateness) -> usize
-    requires room { from + WORD_ROOM ≤ length room.old }
-    ensures { Puts room.old room.new from result WORD_ROOM (lateness_text lateness ++ codes " ") }
+    requires room { from + 18 ≤ length room.old }
+    ensures { Puts room.old room.new from result 18 (codes "local " ++ (lateness_text lateness ++ codes " ")) }
 {
-    let lens = LATENESS_LENS;
-    let number = lateness as usize;
-    put_entry(room, from, LATENESSES, 12, number, lens[number] as usize)
+    put_part(room, from, LATENESSES, 18, LATENESS_LENS, lateness as u8)
 }
 
 #[inline]
@@ -32,7 +30,6 @@ fn put_local(room: &mut [u8], from: usize, lateness: Lateness, delta: u32) -> us
     requires room { from + PART_ROOM ≤ length room.old }
     ensures { Puts room.old room.new from result PART_ROOM (item_text (Local lateness delta)) }
 {
-    let from = put_bytes(room, from, b"local ");
     let from = put_lateness(room, from, lateness);
     put_number(room, from, u64::from(delta))
 }

@@ -2,7 +2,7 @@
 //! and its end is the answer.
 
 ghost use Rattle.std.specs.Prelude.{◌≡◌, ◌+◌, ◌*◌, ◌≤◌, ◌<◌, ◌++◌, ◌∷◌, [], length, take, drop, codes, decimal, nat_lt};
-ghost use Rattle.std.specs.Prelude.{if◌then◌else◌, ◌/◌};
+ghost use Rattle.std.specs.Prelude.{if◌then◌else◌, ◌/◌, slice_index};
 ghost use Rattle.hex.specs.Hex.{encode_lower};
 ghost use Rattle.trace_text.specs.Pairs.{pair, four, eight};
 ghost use Rattle.itm_grammar.specs.Spelling.{byte_count};
@@ -88,6 +88,28 @@ pub(crate) fn put_entry(
     let start = size * number;
     let _all = put_bytes(room, from, &table[start..start + size]);
     from + len
+}
+
+/// Puts what a table of entries of `size` bytes, a constant, has for this number: as many bytes as the table beside it
+/// says. No branch depends on how many they are.
+#[inline(always)]
+pub(crate) fn put_part(
+    room: &mut [u8],
+    from: usize,
+    table: &[u8],
+    size: usize,
+    lens: &[u8],
+    number: u8,
+) -> usize
+    requires number { number < length lens.now }
+    requires table { size * number + size ≤ length table.now }
+    requires few { slice_index lens.now number ≤ size }
+    requires room { from + size ≤ length room.old }
+    ensures { Puts room.old room.new from result size
+        (take (slice_index lens.now number) (drop (size * number) table.now)) }
+{
+    let number = number as usize;
+    put_entry(room, from, table, size, number, lens[number] as usize)
 }
 
 /// Puts the tens and the ones of a number below 100.
@@ -186,20 +208,6 @@ fn put_up_to_eight(room: &mut [u8], from: usize, number: u32) -> usize
     put_four(room, from, (number % 10_000) as u16)
 }
 
-/// Puts a number below 10^12 in decimal.
-#[inline(always)]
-fn put_up_to_twelve(room: &mut [u8], from: usize, number: u64) -> usize
-    requires room { from + 13 ≤ length room.old }
-    requires few { number < 1000000000000 }
-    ensures { Puts room.old room.new from result 13 (decimal number) }
-{
-    if number < 100_000_000 {
-        return put_up_to_eight(room, from, number as u32);
-    }
-    let from = put_up_to_four(room, from, (number / 100_000_000) as u16);
-    put_eight(room, from, (number % 100_000_000) as u32)
-}
-
 /// Puts a number in decimal, without leading zeros.
 #[inline]
 pub(crate) fn put_number(room: &mut [u8], from: usize, number: u64) -> usize
@@ -209,7 +217,13 @@ pub(crate) fn put_number(room: &mut [u8], from: usize, number: u64) -> usize
     if number < 100_000_000 {
         return put_up_to_eight(room, from, number as u32);
     }
-    let from = put_up_to_twelve(room, from, number / 100_000_000);
+    let high = number / 100_000_000;
+    let from = if high < 100_000_000 {
+        put_up_to_eight(room, from, high as u32)
+    } else {
+        let from = put_up_to_four(room, from, (high / 100_000_000) as u16);
+        put_eight(room, from, (high % 100_000_000) as u32)
+    };
     put_eight(room, from, (number % 100_000_000) as u32)
 }
 
@@ -279,9 +293,7 @@ fn put_width(room: &mut [u8], from: usize, size: Size) -> usize
     requires room { from + 4 ≤ length room.old }
     ensures { Puts room.old room.new from result 4 (width_text size) }
 {
-    let lens = WIDTH_LENS;
-    let number = size as usize;
-    put_entry(room, from, WIDTHS, 4, number, lens[number] as usize)
+    put_part(room, from, WIDTHS, 4, WIDTH_LENS, size as u8)
 }
 
 /// The bytes of a value of this size, the most significant first, and then others. No branch depends on the size.

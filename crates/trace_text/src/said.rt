@@ -2,7 +2,6 @@
 //! put with no branch by what the packet is.
 
 ghost use Rattle.std.specs.Prelude.{◌≡◌, ◌+◌, ◌*◌, ◌/◌, ◌≤◌, ◌<◌, ◌++◌, ◌==◌, true, length, Some};
-ghost use Rattle.std.specs.Prelude.{take, drop, slice_index};
 ghost use Rattle.std.specs.Option.{is_some};
 ghost use Rattle.stp_grammar.specs.Opcodes.{line_of, row_at};
 ghost use Rattle.stp_grammar.specs.Said.{said_item, IsProperSaid};
@@ -16,7 +15,7 @@ ghost use Rattle.trace_text.specs.Puts.{Puts};
 use crate::digits::Digits;
 use crate::lengths::{few_digits, few_half_digits, few_id_digits};
 use crate::lines::{EVENT_ROOM, put_half, put_source, put_stp_line};
-use crate::room::{ITEM_ROOM, put_byte, put_entry};
+use crate::room::{ITEM_ROOM, put_byte, put_part};
 use crate::said_tables::{
     DIGIT_COUNTS, MARK_LENS, MARKS, PLACE_COUNTS, WIDTH_LENS, WIDTHS, WORD_LENS, WORDS, WRITTEN,
 };
@@ -55,28 +54,6 @@ fn digit_count(number: u8) -> u8
 {
     let counts = DIGIT_COUNTS;
     counts[number as usize]
-}
-
-/// Puts a part of the text of the row of this number: what a table of entries of `size` bytes has there, as many bytes
-/// as the table beside it says.
-#[inline(always)]
-fn put_part(
-    room: &mut [u8],
-    from: usize,
-    table: &[u8],
-    size: usize,
-    lens: &[u8],
-    number: u8,
-) -> usize
-    requires number { number < length lens.now }
-    requires table { size * number + size ≤ length table.now }
-    requires few { slice_index lens.now number ≤ size }
-    requires room { from + size ≤ length room.old }
-    ensures { Puts room.old room.new from result size
-        (take (slice_index lens.now number) (drop (size * number) table.now)) }
-{
-    let number = number as usize;
-    put_entry(room, from, table, size, number, lens[number] as usize)
 }
 
 /// Puts a datum, a flag, a trigger or a NULL_TS, whose place is kept.

@@ -12,7 +12,7 @@ ghost use Rattle.trace_text.specs.Puts.{Puts, PutsAll};
 use crate::digits::Digits;
 use crate::room::{
     ITEM_ROOM, MEDIUM_ROOM, NUMBER_ROOM, put_byte, put_bytes, put_count, put_digits, put_entry,
-    put_medium, put_short,
+    put_medium, put_part, put_short,
 };
 use crate::tables::{DATUM_DIGITS, DATUM_WIDTH_LENS, DATUM_WIDTHS, MARKS};
 use stp_grammar::item::{Place, Stamp, StpItem};
@@ -72,11 +72,9 @@ fn put_datum(room: &mut [u8], from: usize, width: Width, value: u64) -> usize
     requires room { from + VALUE_ROOM ≤ length room.old }
     ensures { Puts room.old room.new from result VALUE_ROOM (datum_text width value) }
 {
-    let lens = DATUM_WIDTH_LENS;
     let counts = DATUM_DIGITS;
-    let number = width as usize;
-    let from = put_entry(room, from, DATUM_WIDTHS, 4, number, lens[number] as usize);
-    put_nibbles(room, from, counts[number], value)
+    let from = put_part(room, from, DATUM_WIDTHS, 4, DATUM_WIDTH_LENS, width as u8);
+    put_nibbles(room, from, counts[width as usize], value)
 }
 
 /// Puts a timestamp: `-`, `n=N`, `g=N`, or `r=` and its word's nibbles.

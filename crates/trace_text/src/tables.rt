@@ -62,12 +62,13 @@ pub(crate) const DATUM_WIDTH_LENS: &[u8] = &[3, 3, 4, 4, 4];
 /// How many hexadecimal digits a datum of each of these widths has.
 pub(crate) const DATUM_DIGITS: &[u8] = &[1, 2, 4, 8, 16];
 
-/// How late a local timestamp is, with a space after it, in twelve bytes: exact, then by its stamp, by its packet, and
-/// by both. The bytes after it are of no account.
-pub(crate) const LATENESSES: &[u8] = b"exact       stamp-late  packet-late both-late   ";
+/// `local` and how late a local timestamp is, with a space after it, in 18 bytes: exact, then by its stamp, by its
+/// packet, and by both. The bytes after it are of no account.
+pub(crate) const LATENESSES: &[u8] =
+    b"local exact       local stamp-late  local packet-late local both-late   ";
 
 /// How many of these bytes there are.
-pub(crate) const LATENESS_LENS: &[u8] = &[6, 11, 12, 10];
+pub(crate) const LATENESS_LENS: &[u8] = &[12, 17, 18, 16];
 
 /// The flags of a first global timestamp, each with a space before it, in four bytes: first by whether the clock
 /// changed, then by whether the time wrapped.

@@ -1,7 +1,6 @@
-use Rattle.std.proofs.Common.{refl}
+use Rattle.std.proofs.Common.{rules, refl}
 use Rattle.trace_text.proofs.Putting.{said_as}
-use Rattle.trace_text.proofs.Widths.{flags}
 use Rattle.trace_text.proofs.items.put_flags.Goals as goal
 
 pub returns : goal.returns
-returns c = said_as c.put_entry.ensures refl (flags c.args.change c.args.wrap)
+returns c = said_as c.put_entry.ensures refl (search rules)

@@ -1,5 +1,5 @@
 use Rattle.std.proofs.Common.{arith}
-use Rattle.trace_text.proofs.Fours.{decimal_four}
+use Rattle.itoa.proofs.Decimal.{decimal_four}
 use Rattle.trace_text.proofs.Putting.{followed}
 use Rattle.trace_text.proofs.room.put_medium.Goals as goal
 

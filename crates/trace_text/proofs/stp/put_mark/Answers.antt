@@ -1,7 +1,6 @@
-use Rattle.std.proofs.Common.{refl}
+use Rattle.std.proofs.Common.{rules, refl}
 use Rattle.trace_text.proofs.Putting.{said_as}
-use Rattle.trace_text.proofs.Widths.{mark}
 use Rattle.trace_text.proofs.stp.put_mark.Goals as goal
 
 pub returns : goal.returns
-returns c = said_as c.put_entry.ensures refl (mark c.args.marked)
+returns c = said_as c.put_entry.ensures refl (search rules)

@@ -5,7 +5,7 @@ use Rattle.frame_grammar.specs.Frame.{cells, cells_below, run_at}
 use Rattle.frame_grammar.proofs.Looks.{starts}
 use Rattle.frame_grammar.proofs.Pairs.{even_named, even_plain}
 use Rattle.source_counts.specs.declared.source_counts.SourceCounts.{SourceCounts}
-use Rattle.source_counts.proofs.Whole.{IsLazy, IsRun, IsGoing, going_plain, going_named, lazy_none, last_plain, last_named, bytes_counted, items_counted, unattributed_counted, frames_counted}
+use Rattle.source_counts.proofs.Whole.{IsLazy, IsRun, IsGoing, going_plain, going_named, lazy_none, last_plain, last_named, has_bytes, items_counted}
 use Rattle.source_counts.proofs.source_counts.SourceCounts.add_frame_bytes.Goals as goal
 use Rattle.source_counts.proofs.source_counts.SourceCounts.add_frame_bytes.Goals.{then-mixed-eq0, else-mixed-eq0}
 
@@ -66,23 +66,13 @@ named c at =
     (c.loop-pair.invariant.part at)
 
 pub returns-then-last-eq0-clause-bytes : goal.returns-then-last-eq0-clause-bytes
-returns-then-last-eq0-clause-bytes c = λ frames at s. record {
-  bytes = bytes_counted _ _ frames (cells c.args.frame.now at c.args.before) _ (plain c at) s;
-  unattributed = unattributed_counted _ _ frames (cells c.args.frame.now at c.args.before) _ (plain c at) s;
-  frames = frames_counted _ _ frames (cells c.args.frame.now at c.args.before) _ (plain c at) s;
-}
+returns-then-last-eq0-clause-bytes c = λ frames at s. has_bytes _ _ frames _ _ (plain c at) _ s
 
 pub returns-then-last-eq0-clause-items : goal.returns-then-last-eq0-clause-items
-returns-then-last-eq0-clause-items c = λ frames at s.
-    items_counted _ _ frames (cells c.args.frame.now at c.args.before) _ (plain c at) s
+returns-then-last-eq0-clause-items c = λ frames at s. items_counted _ _ frames _ _ (plain c at) s
 
 pub returns-else-last-eq0-clause-bytes : goal.returns-else-last-eq0-clause-bytes
-returns-else-last-eq0-clause-bytes c = λ frames at s. record {
-  bytes = bytes_counted _ _ frames (cells c.args.frame.now at c.args.before) _ (named c at) s;
-  unattributed = unattributed_counted _ _ frames (cells c.args.frame.now at c.args.before) _ (named c at) s;
-  frames = frames_counted _ _ frames (cells c.args.frame.now at c.args.before) _ (named c at) s;
-}
+returns-else-last-eq0-clause-bytes c = λ frames at s. has_bytes _ _ frames _ _ (named c at) _ s
 
 pub returns-else-last-eq0-clause-items : goal.returns-else-last-eq0-clause-items
-returns-else-last-eq0-clause-items c = λ frames at s.
-    items_counted _ _ frames (cells c.args.frame.now at c.args.before) _ (named c at) s
+returns-else-last-eq0-clause-items c = λ frames at s. items_counted _ _ frames _ _ (named c at) s
