@@ -1,9 +1,9 @@
 -- What the rest of a port's bytes reads as, against the whole.
-use Rattle.std.proofs.Common.{◌≡◌, ℕ, ◌+◌, List, [], ◌∷◌, ◌++◌, length, length-append, sym, ◌∙◌, ap, subst, inl, inr, arith, append_assoc, append-nil, Bool, true, false, Option, None, Some}
+use Rattle.std.proofs.Common.{◌≡◌, ℕ, ◌+◌, List, [], ◌∷◌, ◌++◌, length, sym, ◌∙◌, ap, subst, inl, inr, arith, append_assoc, append-nil, Bool, true, false, Option, None}
 use Rattle.std.specs.List.{sum_by}
 use Rattle.std.proofs.lemmas.List.{map-append, nil_from_length}
 use Rattle.std.proofs.lemmas.List.Sums.{sum_by-append}
-use Rattle.resync_grammars.specs.Names.{Cell, Place, Placed, units_of, Progress, Splits, progress, IsAfter, EndsWith}
+use Rattle.resync_grammars.specs.Names.{Cell, Place, Placed, units_of, Progress, Splits, progress, EndsWith}
 use Rattle.resync_grammars.specs.Names.{pattern_of, Found, hunt, PortItem, Full, State, Spells, why, start, rule}
 use Rattle.resync_grammars.specs.Names.{halves_in, cells_of_items, id_of_items, pattern, PortStream, items_of}
 use Rattle.resync_grammars.specs.Names.{read_after, all_skipped, port_hunted, port_stream, cells_in}
@@ -13,7 +13,7 @@ use Rattle.frame_grammar.proofs.Deciding.{port_decided}
 use Rattle.frame_grammar.proofs.Items.{cells_of_items-append}
 use Rattle.resync_grammars.specs.Port.{FullEnded, FullEnds, PortLocks, IsFramedRest, AreNamedLater}
 use Rattle.resync_rules.proofs.Continuing as continuing
-use Rattle.resync_rules.proofs.Syncing.{units_append, units_length, splits_last, ends_within}
+use Rattle.resync_rules.proofs.Syncing.{units_append, splits_last}
 use Rattle.resync_rules.proofs.Locking as locking
 use Rattle.resync_grammars.proofs.Syncing.{port_syncs}
 use Rattle.resync_grammars.proofs.Naming.{named_later}

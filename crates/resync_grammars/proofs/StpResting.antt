@@ -21,7 +21,7 @@ use Rattle.resync_grammars.proofs.StpSyncing.{stp_syncs}
 use Rattle.resync_grammars.proofs.StpItems.{split, parted}
 
 -- only a VERSION gives the item of one
-abbrev NoVersionIn : Option StpItem → Type 0
+abbrev pub NoVersionIn : Option StpItem → Type 0
 NoVersionIn None = Unit {0}
 NoVersionIn (Some item) = (let s : Said StpItem = Kept item in is_version s ≡ false)
 
@@ -34,7 +34,7 @@ plain_none o Channel16 v e = tt
 plain_none o Version v e = cc
 plain_none o x v e = refl
 
-stamped_none : (o : Origin) (s : Stamp) (row : Row) (v : ℕ) → (line_of row).stamped ≡ true → NoVersionIn (item_with o s row v)
+pub stamped_none : (o : Origin) (s : Stamp) (row : Row) (v : ℕ) → (line_of row).stamped ≡ true → NoVersionIn (item_with o s row v)
 stamped_none o s Null v e = tt
 stamped_none o s Master8 v e = tt
 stamped_none o s Channel8 v e = tt

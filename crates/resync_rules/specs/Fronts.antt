@@ -73,6 +73,9 @@ SyncEnds h units = HasEnded h.sync (h.whole units)
 abbrev pub IsSync : {V : Type 0} → Hunting V → List Placed → List Placed → List Placed → Type 0
 IsSync h lost rest front = EndsIn (SyncEnds h) h.size lost rest front
 
+abbrev pub IsFirstSync : {V : Type 0} → Hunting V → List Placed → List Placed → List Placed → Type 0
+IsFirstSync h lost rest front = EndsFirst (SyncEnds h) h.size lost rest front
+
 -- all units are skipped
 abbrev pub all_skipped : {V : Type 0} → ℕ → Stream V
 all_skipped units = record { given = []; fault = None; held = 0; skipped = units; locked = false }
@@ -81,7 +84,7 @@ all_skipped units = record { given = []; fault = None; held = 0; skipped = units
 -- sync on it gives what the whole gives, at the same places, with the same fault and as many units held. So it does
 -- with any units after the lock, and not only with those of this rest.
 pub record Locks {V : Type 0} (h : Hunting V) (lost rest front : List Placed) : Type 0 where
-  pub first : EndsFirst (SyncEnds h) h.size lost rest front
+  pub first : IsFirstSync h lost rest front
   pub start : List Placed
   pub last : Placed
   pub ends : front ≡ start ++ last ∷ []
