@@ -60,10 +60,6 @@ loop-words-preserved c =
     let words = c.loop-words.words in
     let bytes = c.loop-words.bytes in
     let i = c.loop-words.invariant in
-    let few = c.loop-words-test.true in
-    let enough = i.enough in
-    let even = i.even in
-    let size = i.size in
     let chunk = c.in_ok-first.field-0.now in
     let pair = pair_of p chunk from c.in_ok-first.ensures.cases in
     elim c.if-first.branch [
@@ -80,14 +76,14 @@ loop-words-preserved c =
             few = omega arith;
             enough = omega arith;
             even = omega arith;
-            size = ap length b ∙ length-set (set bytes (2 * words) (get_or chunk 0 0)) (2 * words + 1) (get_or chunk 1 0) ∙ length-set bytes (2 * words) (get_or chunk 0 0) ∙ size;
+            size = ap length b ∙ length-set (set bytes (2 * words) (get_or chunk 0 0)) (2 * words + 1) (get_or chunk 1 0) ∙ length-set bytes (2 * words) (get_or chunk 0 0) ∙ i.size;
             places = ap length o ∙ length-set (set behind (2 * words) from) (2 * words + 1) (from + 1) ∙ length-set behind (2 * words) from ∙ i.places;
             placed =
                 ap (places_of c.args.at) (ap (take (2 * c.if-first.words)) o ∙ put_word behind (2 * words) (2 * c.if-first.words) from (from + 1) (omega arith) (omega arith))
                 ∙ map-append (λ (b : ℕ). c.args.at + b) (take (2 * words) behind) (from ∷ ((from + 1) ∷ []))
                 ∙ ap (λ (m : ℕ). places_of c.args.at (take (2 * words) behind) ++ ((c.args.at + from) ∷ (m ∷ []))) (let d : c.args.at + (from + 1) ≡ c.args.at + from + 1 = omega arith in d)
                 ∙ ap (λ (l : List ℕ). l ++ ((c.args.at + from) ∷ ((c.args.at + from + 1) ∷ []))) i.placed
-                ∙ sym (word_placed c.args.at from (get_or chunk 0 0) (get_or chunk 1 0) p (drop (from + 2) p) pair.parts pair.room even w.if-first.true);
+                ∙ sym (word_placed c.args.at from (get_or chunk 0 0) (get_or chunk 1 0) p (drop (from + 2) p) pair.parts pair.room i.even w.if-first.true);
             none = λ e. absurd (omega arith);
             begins = λ x r m e. begins_well words from (get_or chunk 0 0) p (get_or chunk 1 0 ∷ drop (from + 2) p) i.none i.begins pair.parts w.if-first.true x r e;
             so_far = next_word p (drop from p) (take (2 * words) bytes) (8 - words) (8 - c.if-first.words) (from / 2 - words) i.so_far (omega arith)
@@ -104,11 +100,11 @@ loop-words-preserved c =
             few = omega arith;
             enough = omega arith;
             even = omega arith;
-            size = ap length b ∙ size;
+            size = ap length b ∙ i.size;
             places = ap length w.behind-is ∙ i.places;
             placed =
                 ap (places_of c.args.at) (ap (λ (m : ℕ). take (2 * m) c.if-first.behind) n ∙ ap (take (2 * words)) w.behind-is) ∙ i.placed
-                ∙ sym (half_placed c.args.at from (get_or chunk 0 0) (get_or chunk 1 0) p (drop (from + 2) p) pair.parts pair.room even w.if-first.false w.if-second-ne127.false);
+                ∙ sym (half_placed c.args.at from (get_or chunk 0 0) (get_or chunk 1 0) p (drop (from + 2) p) pair.parts pair.room i.even w.if-first.false w.if-second-ne127.false);
             none = λ e. absurd (omega arith);
             begins = λ x r m e. i.begins x r some e;
             so_far =
@@ -125,11 +121,6 @@ returns-clause-front c =
     let p = c.args.piece.now in
     let bytes = c.loop-words.bytes in
     let i = c.loop-words.invariant in
-    let all = c.loop-words-test.false in
-    let few = i.few in
-    let enough = i.enough in
-    let even = i.even in
-    let places = i.places in
     let words : c.loop-words.words ≡ 8 = omega arith in
     let frame : take (2 * c.loop-words.words) bytes ≡ bytes =
     ap (λ (n : ℕ). take n bytes) (let d : 2 * c.loop-words.words ≡ length bytes = (let s = i.size in omega arith) in d) ∙ take-length bytes in
@@ -142,4 +133,4 @@ returns-clause-front c =
     (omega arith) (omega arith))).1
     (ap (places_of c.args.at) (sym (take-length c.loop-words.behind) ∙ ap (λ (n : ℕ). take n c.loop-words.behind) (let d : length c.loop-words.behind ≡ 2 * c.loop-words.words = omega arith in d))
     ∙ i.placed ∙ ap (λ (n : ℕ). offsets_of (without_halves (placed_from c.args.at (take n p)))) from)
-    places
+    i.places
