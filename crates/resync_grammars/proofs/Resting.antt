@@ -28,7 +28,7 @@ abbrev at_found : ℕ → Place → Progress State PortItem → Option (Found St
 at_found = locking.at_found Spells why rule start pattern Full port_syncs
 
 abbrev with_before : List (PortItem × Place) → Progress State PortItem → Progress State PortItem
-with_before = locking.with_before Spells why rule start pattern Full port_syncs
+with_before = continuing.with_before rule start
 
 -- a stream is what is read after the bytes skipped
 pub reads : (h : Bool) (x : List Placed) (n : ℕ) (place : Place) (q : Progress State PortItem) → found_in h x ≡ at_found n place q → port_stream h x ≡ read_after n q

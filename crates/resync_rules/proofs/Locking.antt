@@ -37,12 +37,6 @@ module _ {S V : Type 0} (Spells : V → List Placed → Type 0) (why : List Plac
   abbrev pub prog : List Placed → Progress S V
   prog u = progress rule start u
 
-  abbrev pub with_before : List (V × Place) → Progress S V → Progress S V
-  with_before = continuing.with_before rule start
-
-  abbrev pub ended : List (V × Place) → Progress S V
-  ended = continuing.ended rule start
-
   abbrev pub hunt_of : List Placed → Hunt S V
   hunt_of u = hunt p v rule start u
 
@@ -139,8 +133,8 @@ module _ {S V : Type 0} (Spells : V → List Placed → Type 0) (why : List Plac
     pub parts : w ≡ (before ++ sync) ++ after
     pub pattern : units_of sync ≡ pattern_of p
     pub first : IsFirst (pattern_of p) (units_of w) (units_of before)
-    pub alone : prog sync ≡ ended ((v, place) ∷ [])
-    pub whole : (z : List Placed) → found_in h (u ++ ((before ++ sync) ++ z)) ≡ at_found skipped whole_place (with_before early (prog (sync ++ z)))
+    pub alone : prog sync ≡ continuing.ended rule start ((v, place) ∷ [])
+    pub whole : (z : List Placed) → found_in h (u ++ ((before ++ sync) ++ z)) ≡ at_found skipped whole_place (continuing.with_before rule start early (prog (sync ++ z)))
     pub rest : (z : List Placed) → found_in true ((before ++ sync) ++ z) ≡ at_found (length before) place (prog (sync ++ z))
 
   alone_at : (m : List Placed) → units_of m ≡ pattern_of p → syncing.IsJoined Spells why rule start p v k [] m
@@ -164,7 +158,7 @@ module _ {S V : Type 0} (Spells : V → List Placed → Type 0) (why : List Plac
         let n = units_length a in let o = units_length c in omega arith
 
     -- the rest by itself
-    pub rest_at : (place : Place) → prog m ≡ ended ((v, place) ∷ []) → (z : List Placed) → found_in true ((a ++ m) ++ z) ≡ at_found (length a) place (prog (m ++ z))
+    pub rest_at : (place : Place) → prog m ≡ continuing.ended rule start ((v, place) ∷ []) → (z : List Placed) → found_in true ((a ++ m) ++ z) ≡ at_found (length a) place (prog (m ++ z))
     rest_at place alone z = elim (by_mode true (a ++ m)) [
       | inl r ↦
           let f = r.first refl in
@@ -185,7 +179,7 @@ module _ {S V : Type 0} (Spells : V → List Placed → Type 0) (why : List Plac
       early : List (V × Place)
       front : List Placed
       joined : syncing.IsJoined Spells why rule start p v k front m
-      all : (z : List Placed) → prog (r.seen ++ z) ≡ with_before early (prog (m ++ z))
+      all : (z : List Placed) → prog (r.seen ++ z) ≡ continuing.with_before rule start early (prog (m ++ z))
 
     within : (r : Reads h (u ++ (a ++ m))) (c : List Placed) → (prog r.seen).fault ≡ None → u ≡ r.front ++ c → Goes r
     within r c sound e =

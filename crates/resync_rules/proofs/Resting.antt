@@ -143,15 +143,15 @@ module _ {S V : Type 0} (Spells : V → List Placed → Type 0) (why : List Plac
     nothing_more : l.sync ++ [] ≡ l.sync
     nothing_more = append-nil l.sync
 
-    then : stream h (u ++ front) ≡ shown (notice h l.skipped l.whole_place) l.skipped (locking.with_before Spells why rule start p v k l.early (prog l.sync))
+    then : stream h (u ++ front) ≡ shown (notice h l.skipped l.whole_place) l.skipped (continuing.with_before rule start l.early (prog l.sync))
     then =
-        shows h (u ++ front) l.skipped l.whole_place (locking.with_before Spells why rule start p v k l.early (prog l.sync))
+        shows h (u ++ front) l.skipped l.whole_place (continuing.with_before rule start l.early (prog l.sync))
         (ap (λ (z : List Placed). found_in h (u ++ z)) (sym (append-nil front)) ∙ l.whole []
-        ∙ ap (λ (z : List Placed). at_found l.skipped l.whole_place (locking.with_before Spells why rule start p v k l.early (prog z))) nothing_more)
+        ∙ ap (λ (z : List Placed). at_found l.skipped l.whole_place (continuing.with_before rule start l.early (prog z))) nothing_more)
 
-    now : (z : List Placed) → stream h (u ++ (front ++ z)) ≡ shown (notice h l.skipped l.whole_place) l.skipped (locking.with_before Spells why rule start p v k l.early (prog (l.sync ++ z)))
+    now : (z : List Placed) → stream h (u ++ (front ++ z)) ≡ shown (notice h l.skipped l.whole_place) l.skipped (continuing.with_before rule start l.early (prog (l.sync ++ z)))
     now z =
-        shows h (u ++ (front ++ z)) l.skipped l.whole_place (locking.with_before Spells why rule start p v k l.early (prog (l.sync ++ z))) (l.whole z)
+        shows h (u ++ (front ++ z)) l.skipped l.whole_place (continuing.with_before rule start l.early (prog (l.sync ++ z))) (l.whole z)
 
     rest_is : (z : List Placed) → stream true (front ++ z) ≡ shown ((Notice (length l.before), l.place) ∷ []) (length l.before) (prog (l.sync ++ z))
     rest_is z = shows true (front ++ z) (length l.before) l.place (prog (l.sync ++ z)) (l.rest z)
