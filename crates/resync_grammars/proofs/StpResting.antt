@@ -88,11 +88,7 @@ module _ (order : Order) where
     agree more =
         let s = split (l.later more) in
         record {
-          until = s.until;
-          from = s.from;
-          parts = s.parts;
-          no_version = s.no_version;
-          version = s.version;
+          split = s;
           whole_items = ap (λ z. items_after before ((Async, at) ∷ z)) s.parts ∙ parted before at s.until s.from s.version;
           rest_items = ap (λ z. items_after [] ((Async, at) ∷ z)) s.parts ∙ parted [] at s.until s.from s.version;
           none_earlier = none_in ((Async, at) ∷ s.until) []
