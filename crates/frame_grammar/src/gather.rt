@@ -2,7 +2,7 @@
 
 ghost use Rattle.std.specs.Prelude.{◌≡◌, ◌≤◌, ◌<◌, ◌+◌, ◌*◌, ◌^◌, ℕ, List, length, take, IfSome, IsNone, slice_index};
 ghost use Rattle.frame_grammar.specs.Names.{placed_from};
-ghost use Rattle.frame_grammar.specs.Placing.{places_of};
+ghost use Rattle.frame_grammar.specs.Placing.{BeginsPiece, places_of};
 ghost use Rattle.frame_grammar.specs.Reading.{offsets_of};
 ghost use Rattle.frame_grammar.specs.Whole.{IsWhole, without_halves};
 ghost use Rattle.frame_grammar.specs.declared.frame.TheConstants.{FRAME_BYTES};
@@ -45,12 +45,7 @@ fn gather_near(at: u64, piece: &[u8]) -> Option<PlacedFrame>
     requires few { length piece.now ≤ MOST_BYTES }
     requires fits { at + length piece.now ≤ 2 ^ 64 }
     ensures at { IfSome result (λ g. g.at ≡ at) }
-    ensures room { IfSome result (λ g. FRAME_BYTES + 2 * g.halves ≤ length piece.now) }
-    ensures whole { IfSome result (λ g. IsWhole (take (FRAME_BYTES + 2 * g.halves) piece.now) g.bytes g.halves) }
-    ensures offsets { IfSome result (λ g. let w = placed_from at (take (FRAME_BYTES + 2 * g.halves) piece.now) in
-        places_of g.at g.behind ≡ offsets_of (without_halves w)) }
-    ensures near { IfSome result (λ g. (i : ℕ) → i < FRAME_BYTES →
-        slice_index g.behind i < FRAME_BYTES + 2 * g.halves) }
+    ensures front { IfSome result (λ g. BeginsPiece at piece.now g.bytes g.behind g.halves) }
     ensures only { IsNone result → (n halves : ℕ) (frame : List ℕ) → n ≤ length piece.now →
         IsWhole (take n piece.now) frame halves → ⊥ }
 {

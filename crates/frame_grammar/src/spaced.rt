@@ -1,11 +1,7 @@
 //! A frame whose bytes are all in a piece, with a half synchronisation in each gap between its halfwords.
 
 ghost use Rattle.std.specs.Prelude.{◌≡◌, ◌≢◌, ◌≤◌, ◌<◌, ◌+◌, ◌*◌, ◌^◌, ℕ, length, take, IfSome, IsTrue, slice_index};
-ghost use Rattle.frame_grammar.specs.Names.{placed_from};
-ghost use Rattle.frame_grammar.specs.Placing.{places_of};
-ghost use Rattle.frame_grammar.specs.Reading.{offsets_of};
-ghost use Rattle.frame_grammar.specs.Whole.{IsWhole, without_halves};
-ghost use Rattle.frame_grammar.specs.declared.frame.TheConstants.{FRAME_BYTES};
+ghost use Rattle.frame_grammar.specs.Placing.{BeginsPiece};
 ghost use Rattle.frame_grammar.specs.declared.spaced.TheConstants.{GAPS, SPACED_BYTES};
 
 use crate::frame::FRAME_BYTES;
@@ -55,12 +51,7 @@ fn is_spaced(piece: &[u8]) -> bool
 pub(crate) fn spaced_frame(at: u64, piece: &[u8]) -> Option<PlacedFrame>
     requires { at + length piece.now ≤ 2 ^ 64 }
     ensures at { IfSome result (λ g. g.at ≡ at) }
-    ensures room { IfSome result (λ g. FRAME_BYTES + 2 * g.halves ≤ length piece.now) }
-    ensures whole { IfSome result (λ g. IsWhole (take (FRAME_BYTES + 2 * g.halves) piece.now) g.bytes g.halves) }
-    ensures offsets { IfSome result (λ g. let w = placed_from at (take (FRAME_BYTES + 2 * g.halves) piece.now) in
-        places_of g.at g.behind ≡ offsets_of (without_halves w)) }
-    ensures near { IfSome result (λ g. (i : ℕ) → i < FRAME_BYTES →
-        slice_index g.behind i < FRAME_BYTES + 2 * g.halves) }
+    ensures front { IfSome result (λ g. BeginsPiece at piece.now g.bytes g.behind g.halves) }
 {
     if piece.len() < SPACED_BYTES || !is_spaced(piece) {
         return None;

@@ -1,9 +1,9 @@
 -- What the rest of a port's bytes reads as, against the whole.
-use Rattle.std.proofs.Common.{◌≡◌, ℕ, ◌+◌, List, [], ◌∷◌, ◌++◌, length, length-append, sym, ◌∙◌, ap, subst, inl, inr, arith, append_assoc, append-nil, Bool, true, false, Option, None, Some}
+use Rattle.std.proofs.Common.{◌≡◌, ℕ, ◌+◌, List, [], ◌∷◌, ◌++◌, length, sym, ◌∙◌, ap, subst, inl, inr, arith, append_assoc, append-nil, Bool, true, false, Option, None}
 use Rattle.std.specs.List.{sum_by}
 use Rattle.std.proofs.lemmas.List.{map-append, nil_from_length}
 use Rattle.std.proofs.lemmas.List.Sums.{sum_by-append}
-use Rattle.resync_grammars.specs.Names.{Cell, Place, Placed, units_of, Progress, Splits, progress, IsAfter, EndsWith}
+use Rattle.resync_grammars.specs.Names.{Cell, Place, Placed, units_of, Progress, Splits, progress, EndsWith}
 use Rattle.resync_grammars.specs.Names.{pattern_of, Found, hunt, PortItem, Full, State, Spells, why, start, rule}
 use Rattle.resync_grammars.specs.Names.{halves_in, cells_of_items, id_of_items, pattern, PortStream, items_of}
 use Rattle.resync_grammars.specs.Names.{read_after, all_skipped, port_hunted, port_stream, cells_in}
@@ -11,9 +11,9 @@ use Rattle.trace_values.proofs.Standings.{from_append}
 use Rattle.trace_values.proofs.Readings as readings
 use Rattle.frame_grammar.proofs.Deciding.{port_decided}
 use Rattle.frame_grammar.proofs.Items.{cells_of_items-append}
-use Rattle.resync_grammars.specs.Port.{FullEnded, IsFull, PortLocks, IsFramedRest, AreNamedLater}
+use Rattle.resync_grammars.specs.Port.{FullEnded, FullEnds, PortLocks, IsFramedRest, AreNamedLater}
 use Rattle.resync_rules.proofs.Continuing as continuing
-use Rattle.resync_rules.proofs.Syncing.{units_append, units_length, splits_last, ends_within}
+use Rattle.resync_rules.proofs.Syncing.{units_append, splits_last}
 use Rattle.resync_rules.proofs.Locking as locking
 use Rattle.resync_grammars.proofs.Syncing.{port_syncs}
 use Rattle.resync_grammars.proofs.Naming.{named_later}
@@ -28,7 +28,7 @@ abbrev at_found : ℕ → Place → Progress State PortItem → Option (Found St
 at_found = locking.at_found Spells why rule start pattern Full port_syncs
 
 abbrev with_before : List (PortItem × Place) → Progress State PortItem → Progress State PortItem
-with_before = locking.with_before Spells why rule start pattern Full port_syncs
+with_before = continuing.with_before rule start
 
 -- a stream is what is read after the bytes skipped
 pub reads : (h : Bool) (x : List Placed) (n : ℕ) (place : Place) (q : Progress State PortItem) → found_in h x ≡ at_found n place q → port_stream h x ≡ read_after n q
@@ -64,16 +64,6 @@ ends_pattern h x e = elim (locking.by_mode Spells why rule start pattern Full po
       )
 ]
 
-stands_there : (h : Bool) (u w front : List Placed) → IsFull h u w front → (c : List ℕ) × (length c + 4 ≡ length front) × IsAfter (pattern_of pattern) (units_of w) c
-stands_there h u w front g =
-    let e = ends_pattern h (u ++ front) g.ended in
-    let long = g.long in
-    let s = ends_within (units_of u) (units_of front) e.0 (pattern_of pattern) (sym (units_append u front) ∙ e.1) (let n = units_length front in omega arith) in (
-      s.0,
-      (let n = units_length front in let i = ap length s.1 in let j = length-append s.0 (pattern_of pattern) in omega arith),
-      (units_of g.more, ap units_of g.parts ∙ units_append front g.more ∙ ap (λ (y : List ℕ). y ++ units_of g.more) s.1 ∙ append_assoc s.0 (pattern_of pattern) (units_of g.more)),
-    )
-
 sum_append : (xs ys : List PortItem) → sum_by halves_in (xs ++ ys) ≡ sum_by halves_in xs + sum_by halves_in ys
 sum_append xs ys = sum_by-append halves_in xs ys
 
@@ -86,9 +76,6 @@ module _ (h : Bool) (u w : List Placed) (l : locking.IsLock Spells why rule star
 
   abbrev last : Progress State PortItem
   last = prog (l.sync ++ l.after)
-
-  front_length : length l.before + 4 ≡ length front
-  front_length = let i = length-append l.before l.sync in let j = ap length l.pattern in let n = units_length l.sync in omega arith
 
   then : port_stream h (u ++ front) ≡ read_after l.skipped (with_before l.early (prog l.sync))
   then =
@@ -132,19 +119,13 @@ module _ (h : Bool) (u w : List Placed) (l : locking.IsLock Spells why rule star
 
   pub locked : PortLocks h u w front
   locked = record {
-    first = record {
-      is_full = record {
-        more = l.after;
-        parts = l.parts;
-        long = (let n = front_length in omega arith);
-        ended = record { before = l.early; place = l.place; items = then_items; tail = then_tail };
-      };
-      least = λ other s. (let c = stands_there h u w other s in let i = l.first.least c.0 c.2 in let n = front_length in let o = units_length l.before in let q = c.1 in omega arith);
-    };
+    first =
+        locking.first_end Spells why rule start pattern Full port_syncs (FullEnds h) (ends_pattern h) h u w l
+        (record { before = l.early; place = l.place; items = then_items; tail = then_tail });
     start = l.before ++ l.ends.0;
     last = l.last;
     ends = ap (λ (z : List Placed). l.before ++ z) l.ends.1 ∙ sym (append_assoc l.before l.ends.0 (l.last ∷ []));
-    skipped = ap (λ (z : PortStream). z.skipped + 4) rest_is ∙ front_length;
+    skipped = ap (λ (z : PortStream). z.skipped + 4) rest_is ∙ sym (locking.front_length Spells why rule start pattern Full port_syncs h u w l);
     locked = ap (λ (z : PortStream). z.locked) rest_is;
     early = l.early;
     later = more.0;
@@ -161,14 +142,7 @@ module _ (h : Bool) (u w : List Placed) (l : locking.IsLock Spells why rule star
   }
 
 pub is_rest : (h : Bool) (u w : List Placed) → (port_stream h (u ++ w)).fault ≡ None → IsFramedRest h u w
-is_rest h u w f = elim (locking.locks Spells why rule start pattern Full port_syncs h u w (sound h f)) [
-  | inl l ↦ inr (l.before ++ l.sync, locked h u w l)
-  | inr n ↦ inl (λ front s. (let c = stands_there h u w front s in n.0 c.0 c.2), skips w n.1)
-] where
-  sound_by : (o : Option (Found State PortItem)) (n : ℕ) → (port_hunted n o).fault ≡ None → locking.Sound Spells why rule start pattern Full port_syncs o
-  sound_by None n e = tt
-  sound_by (Some g) n e = e
-
-  sound : (h : Bool) → (port_stream h (u ++ w)).fault ≡ None → locking.Sound Spells why rule start pattern Full port_syncs (found_in h (u ++ w))
-  sound false e = e
-  sound true e = sound_by (hunt pattern Full rule start (u ++ w)).found (hunt pattern Full rule start (u ++ w)).units e
+is_rest h u w f =
+    locking.rest_locks Spells why rule start pattern Full port_syncs (FullEnds h) (ends_pattern h) h u w
+    (locking.sound_in Spells why rule start pattern Full port_syncs (λ (z : PortStream). z.fault) port_stream (λ h x n place q e. ap (λ (z : PortStream). z.fault) (reads h x n place q e)) h (u ++ w) f)
+    (port_stream true w ≡ all_skipped (length w)) (PortLocks h u w) (skips w) (locked h u w)

@@ -12,7 +12,7 @@ use Rattle.trace_clock.proofs.LastStamps.{after_itself, after_same}
 use Rattle.stp_grammar.specs.NextState.{next_version}
 use Rattle.stp_grammar.specs.Attribution.{version_in, master8_in, master16_in, channel8_in, channel16_in, stamp_in, last_given, begins_master, begins_channel, number_by, number_of, version_of, master_of, channel_of, keeps_word, last_word_of, place_of, stamp_by, stamp_of, item_with, item_of, attribute}
 use Rattle.stp_grammar.proofs.Attributing.{version_more}
-use Rattle.resync_grammars.specs.Stp.{items_after, HasNoVersion, BeginsWithVersion}
+use Rattle.resync_grammars.specs.Stp.{items_after, BeginsWithVersion, SplitAtVersion}
 
 -- what items see of the packets up to them
 pub record Alike (ps qs : List StpPacket) : Type 0 where
@@ -113,21 +113,13 @@ same_from ((p, place) ∷ packets) ps qs (v, e) = subst (λ (x : StpPacket). ite
       let b = alike_anew ps qs v in
       ap (λ l. kept_if (item_of (ps ++ Plain Version v ∷ []) (Plain Version v)) place l) (same_after packets (ps ++ Plain Version v ∷ []) (qs ++ Plain Version v ∷ []) b)
 
--- packets up to the first VERSION, and from it on
-pub record Split (packets : List (StpPacket × Place)) : Type 0 where
-  pub until : List (StpPacket × Place)
-  pub from : List (StpPacket × Place)
-  pub parts : packets ≡ until ++ from
-  pub no_version : HasNoVersion until
-  pub version : BeginsWithVersion from
-
 pub version_cases : (p : StpPacket) → (version_in p ≡ None) ⊎ ((v : ℕ) × (p ≡ Plain Version v))
 version_cases (Plain Version v) = inr (v, refl)
 version_cases Async = inl refl
 version_cases (Plain row v) = inl refl
 version_cases (Stamped row v size word) = inl refl
 
-pub split : (packets : List (StpPacket × Place)) → Split packets
+pub split : (packets : List (StpPacket × Place)) → SplitAtVersion packets
 split [] = record { until = []; from = []; parts = refl; no_version = tt; version = tt }
 split ((p, place) ∷ packets) = elim (version_cases p) [
   | inl m ↦

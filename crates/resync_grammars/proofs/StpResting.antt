@@ -21,7 +21,7 @@ use Rattle.resync_grammars.proofs.StpSyncing.{stp_syncs}
 use Rattle.resync_grammars.proofs.StpItems.{split, parted}
 
 -- only a VERSION gives the item of one
-abbrev NoVersionIn : Option StpItem → Type 0
+abbrev pub NoVersionIn : Option StpItem → Type 0
 NoVersionIn None = Unit {0}
 NoVersionIn (Some item) = (let s : Said StpItem = Kept item in is_version s ≡ false)
 
@@ -34,7 +34,7 @@ plain_none o Channel16 v e = tt
 plain_none o Version v e = cc
 plain_none o x v e = refl
 
-stamped_none : (o : Origin) (s : Stamp) (row : Row) (v : ℕ) → (line_of row).stamped ≡ true → NoVersionIn (item_with o s row v)
+pub stamped_none : (o : Origin) (s : Stamp) (row : Row) (v : ℕ) → (line_of row).stamped ≡ true → NoVersionIn (item_with o s row v)
 stamped_none o s Null v e = tt
 stamped_none o s Master8 v e = tt
 stamped_none o s Channel8 v e = tt
@@ -88,11 +88,7 @@ module _ (order : Order) where
     agree more =
         let s = split (l.later more) in
         record {
-          until = s.until;
-          from = s.from;
-          parts = s.parts;
-          no_version = s.no_version;
-          version = s.version;
+          split = s;
           whole_items = ap (λ z. items_after before ((Async, at) ∷ z)) s.parts ∙ parted before at s.until s.from s.version;
           rest_items = ap (λ z. items_after [] ((Async, at) ∷ z)) s.parts ∙ parted [] at s.until s.from s.version;
           none_earlier = none_in ((Async, at) ∷ s.until) []

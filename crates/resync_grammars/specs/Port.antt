@@ -1,7 +1,8 @@
 -- Lost fronts of a port's bytes (CoreSight Architecture Specification, Arm IHI 0029E (version 3.0), chapter 'Trace
 -- Formatter', its section on frames): what a hunt in the rest reads, against the whole.
-use Rattle.std.specs.Prelude.{◌≡◌, ◌⊎◌, ℕ, ◌+◌, ◌≤◌, List, [], ◌∷◌, ◌++◌, length, map, Bool, true, false, None, is_none}
+use Rattle.std.specs.Prelude.{◌≡◌, ◌⊎◌, ℕ, ◌+◌, List, [], ◌∷◌, ◌++◌, length, map, Bool, true, false, None, is_none}
 use Rattle.std.specs.List.{sum_by}
+use Rattle.resync_rules.specs.Fronts.{EndsIn, EndsFirst}
 use Rattle.resync_grammars.specs.Names.{Cell, Place, Placed, FramesMode, Hunt, Aligned, Bare, PortItem, Full}
 use Rattle.resync_grammars.specs.Names.{cells_of_items, halves_in, source_units, PortStream, all_skipped, items_of}
 use Rattle.resync_grammars.specs.Names.{port_stream, cells_in, bare_cell, port_reading, cells_of}
@@ -13,17 +14,9 @@ pub record FullEnded (s : PortStream) : Type 0 where
   pub items : s.items ≡ before ++ (Full, place) ∷ []
   pub tail : s.tail ≡ 0
 
--- With this front of the rest a full synchronisation of the whole ends, and its four bytes are all in the rest.
-pub record IsFull (hunts : Bool) (lost rest front : List Placed) : Type 0 where
-  pub more : List Placed
-  pub parts : rest ≡ front ++ more
-  pub long : 4 ≤ length front
-  pub ended : FullEnded (port_stream hunts (lost ++ front))
-
--- It is the first one.
-pub record IsFirstFull (hunts : Bool) (lost rest front : List Placed) : Type 0 where
-  pub is_full : IsFull hunts lost rest front
-  pub least : (other : List Placed) → IsFull hunts lost rest other → length front ≤ length other
+-- with these bytes a full synchronisation of the whole ends
+abbrev pub FullEnds : Bool → List Placed → Type 0
+FullEnds hunts bytes = FullEnded (port_stream hunts bytes)
 
 -- a cell whose source is not known
 abbrev pub unnamed : Cell → Cell
@@ -50,7 +43,7 @@ pub record AreNamedLater (whole rest : List Cell) : Type 0 where
 -- The hunt in the rest locks at that full synchronisation, and skips the bytes before its four. From it on the rest has
 -- the items of the whole, at the same places, with as many half synchronisations, the same fault and the same tail.
 pub record PortLocks (hunts : Bool) (lost rest front : List Placed) : Type 0 where
-  pub first : IsFirstFull hunts lost rest front
+  pub first : EndsFirst (FullEnds hunts) 4 lost rest front
   pub start : List Placed
   pub last : Placed
   pub ends : front ≡ start ++ last ∷ []
@@ -75,7 +68,8 @@ pub record PortLocks (hunts : Bool) (lost rest front : List Placed) : Type 0 whe
 -- skips all bytes; else it locks at the first.
 abbrev pub IsFramedRest : Bool → List Placed → List Placed → Type 0
 IsFramedRest hunts lost rest =
-    (((front : List Placed) → IsFull hunts lost rest front → ⊥) × (port_stream true rest ≡ all_skipped (length rest)))
+    (((front : List Placed) → EndsIn (FullEnds hunts) 4 lost rest front → ⊥)
+    × (port_stream true rest ≡ all_skipped (length rest)))
     ⊎ ((front : List Placed) × PortLocks hunts lost rest front)
 
 -- The same in each mode of the whole. With no formatter the rest loses the cells of the lost bytes, and no more.

@@ -54,6 +54,14 @@ abbrev pub is_version : Said StpItem → Bool
 is_version (Kept (VersionItem version)) = true
 is_version said = false
 
+-- packets up to the first VERSION, and from it on
+pub record SplitAtVersion (packets : List (StpPacket × Place)) : Type 0 where
+  pub until : List (StpPacket × Place)
+  pub from : List (StpPacket × Place)
+  pub parts : packets ≡ until ++ from
+  pub no_version : HasNoVersion until
+  pub version : BeginsWithVersion from
+
 -- What the items of a whole and of its rest are from the ASYNC on with which the rest locks, at this place: these
 -- packets are before that ASYNC in the whole, and these are after it in both. From the first VERSION after it on the
 -- items are the same, with the same places in the trace and timestamps, and nothing that came before that VERSION
@@ -61,15 +69,11 @@ is_version said = false
 -- whole as the earlier packets have it, and in the rest as if there were none.
 pub record ItemsAgree (before : List StpPacket) (place : Place) (later : List (StpPacket × Place))
     (whole rest : List (Said StpItem × Place)) : Type 0 where
-  pub until : List (StpPacket × Place)
-  pub from : List (StpPacket × Place)
-  pub parts : later ≡ until ++ from
-  pub no_version : HasNoVersion until
-  pub version : BeginsWithVersion from
-  pub whole_items : whole ≡ items_after before ((Async, place) ∷ until) ++ items_after [] from
-  pub rest_items : rest ≡ items_after [] ((Async, place) ∷ until) ++ items_after [] from
+  pub split : SplitAtVersion later
+  pub whole_items : whole ≡ items_after before ((Async, place) ∷ split.until) ++ items_after [] split.from
+  pub rest_items : rest ≡ items_after [] ((Async, place) ∷ split.until) ++ items_after [] split.from
   -- so the first item of a VERSION is the first item from there on
-  pub none_earlier : AllByRecursion (λ x. is_version x.0 ≡ false) (items_after [] ((Async, place) ∷ until))
+  pub none_earlier : AllByRecursion (λ x. is_version x.0 ≡ false) (items_after [] ((Async, place) ∷ split.until))
 
 -- The rest locks with this front, and its items are as above; so they are with any nibbles after the lock.
 pub record ItemsLock (order : Order) (hunts : Bool) (lost rest front : List Placed) : Type 0 where

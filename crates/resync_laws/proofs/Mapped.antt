@@ -13,13 +13,11 @@ use Rattle.itm_grammar.specs.Spelling as itm
 use Rattle.itm_grammar.specs.Rule as itm_rule
 use Rattle.itm_codec.specs.Reading as itm_reading
 use Rattle.stp_grammar.specs.declared.packet.Row.{Row}
-use Rattle.stp_grammar.specs.declared.packet.Row.TheVariants.{Null, Master8, Channel8, Master16, Channel16, Version}
+use Rattle.stp_grammar.specs.declared.packet.Row.TheVariants.{Null, Master8, Channel8, Master16, Channel16}
 use Rattle.stp_grammar.specs.declared.packet.StpPacket.{StpPacket}
 use Rattle.stp_grammar.specs.declared.packet.StpPacket.TheVariants.{Async, Plain, Stamped}
 use Rattle.stp_grammar.specs.declared.partial.Partial.TheVariants.{Start}
 use Rattle.stp_grammar.specs.declared.item.Place.{Place as Origin}
-use Rattle.stp_grammar.specs.declared.item.Stamp.{Stamp}
-use Rattle.stp_grammar.specs.Opcodes.{line_of}
 use Rattle.stp_grammar.specs.Shortest.{IsByRow}
 use Rattle.stp_grammar.specs.Spelling as stp
 use Rattle.stp_grammar.specs.Rule as stp_rule
@@ -33,7 +31,7 @@ use Rattle.resync_grammars.proofs.ItmSyncing.{itm_syncs}
 use Rattle.resync_grammars.proofs.StpSyncing.{stp_syncs}
 use Rattle.resync_grammars.proofs.StpItems.{Alike, alike_push, alike_anew, item_alike, version_cases}
 use Rattle.resync_grammars.proofs.Captures.{itm_rest}
-use Rattle.resync_grammars.proofs.StpResting.{is_items_rest}
+use Rattle.resync_grammars.proofs.StpResting.{NoVersionIn, is_items_rest, stamped_none}
 use Rattle.resync_rules.proofs.ItemTerms.{first_item, IsMarked, BeginsAnew}
 use Rattle.resync_laws.specs.Resumed.{wholes, rests, CanResume, CanAll, IsQuiet, IsQuietAt}
 use Rattle.resync_laws.proofs.ReportTerms.{AllRead}
@@ -80,20 +78,16 @@ row_marked o Master16 v = tt
 row_marked o Channel16 v = tt
 row_marked o x v = refl
 
-stamped_marked : (o : Origin) (s : Stamp) (row : Row) (v : ℕ) → (line_of row).stamped ≡ true → Marked false (item_with o s row v)
-stamped_marked o s Null v e = tt
-stamped_marked o s Master8 v e = tt
-stamped_marked o s Channel8 v e = tt
-stamped_marked o s Master16 v e = tt
-stamped_marked o s Channel16 v e = tt
-stamped_marked o s Version v e = (let k : false ≡ true = e in cc)
-stamped_marked o s x v e = refl
+unmarked : (o : Option StpItem) → NoVersionIn o → Marked false o
+unmarked None h = tt
+unmarked (Some (Rattle.stp_grammar.specs.declared.item.StpItem.TheVariants.Version v)) h = h
+unmarked (Some item) h = refl
 
 marked : (ps : List StpPacket) (p : StpPacket) → IsByRow p → Marked (begins_master p) (attribute ps p).0
 marked ps Async r = refl
 marked ps (Plain row v) r = row_marked (place_of (ps ++ Plain row v ∷ [])) row v
 marked ps (Stamped row v size word) r =
-    stamped_marked (place_of (ps ++ Stamped row v size word ∷ [])) (stamp_of (ps ++ Stamped row v size word ∷ []) size word) row v r
+    unmarked _ (stamped_none (place_of (ps ++ Stamped row v size word ∷ [])) (stamp_of (ps ++ Stamped row v size word ∷ []) size word) row v r)
 
 begins_anew : BeginsAnew attribute IsByRow begins_master is_version_item Alike
 begins_anew = record {

@@ -3,15 +3,16 @@ use Rattle.std.proofs.Common.{◌≡◌, ℕ, ◌+◌, ◌≤◌, List, [], ◌�
 use Rattle.std.proofs.lemmas.Bool.{true_from_ne_false}
 use Rattle.std.proofs.lemmas.List.{append_cancel_left}
 use Rattle.resync_rules.specs.Names.{Reason, Next, Place, Placed, units_of, Progress, advance, progress_from, progress}
-use Rattle.resync_rules.specs.Names.{IsAfter, IsNowhere, IsFirst, Pattern, pattern_of, Found, Hunt, hunt_on, hunt_from}
+use Rattle.resync_rules.specs.Names.{EndsWith, IsAfter, IsNowhere, IsFirst, Pattern, pattern_of, Found, Hunt, hunt_on, hunt_from}
 use Rattle.resync_rules.specs.Names.{no_hunt, hunt}
 use Rattle.trace_values.proofs.Lists.{fronts_meet, same_fronts}
 use Rattle.trace_values.proofs.Standings.{from_append}
 use Rattle.trace_values.proofs.HuntSteps as hunt_steps
 use Rattle.trace_values.proofs.HuntedLemmas as hunting
+use Rattle.resync_rules.specs.Fronts.{EndsIn, EndsFirst}
 use Rattle.resync_rules.specs.Syncing.{Syncs}
 use Rattle.resync_rules.proofs.Continuing as continuing
-use Rattle.resync_rules.proofs.Syncing.{units_append, units_length, parts_of}
+use Rattle.resync_rules.proofs.Syncing.{units_append, units_length, parts_of, ends_within}
 use Rattle.resync_rules.proofs.Syncing as syncing
 
 -- where the pattern is it is with more units
@@ -35,12 +36,6 @@ module _ {S V : Type 0} (Spells : V → List Placed → Type 0) (why : List Plac
     (k : Syncs Spells why rule start p v) where
   abbrev pub prog : List Placed → Progress S V
   prog u = progress rule start u
-
-  abbrev pub with_before : List (V × Place) → Progress S V → Progress S V
-  with_before = continuing.with_before rule start
-
-  abbrev pub ended : List (V × Place) → Progress S V
-  ended = continuing.ended rule start
 
   abbrev pub hunt_of : List Placed → Hunt S V
   hunt_of u = hunt p v rule start u
@@ -138,8 +133,8 @@ module _ {S V : Type 0} (Spells : V → List Placed → Type 0) (why : List Plac
     pub parts : w ≡ (before ++ sync) ++ after
     pub pattern : units_of sync ≡ pattern_of p
     pub first : IsFirst (pattern_of p) (units_of w) (units_of before)
-    pub alone : prog sync ≡ ended ((v, place) ∷ [])
-    pub whole : (z : List Placed) → found_in h (u ++ ((before ++ sync) ++ z)) ≡ at_found skipped whole_place (with_before early (prog (sync ++ z)))
+    pub alone : prog sync ≡ continuing.ended rule start ((v, place) ∷ [])
+    pub whole : (z : List Placed) → found_in h (u ++ ((before ++ sync) ++ z)) ≡ at_found skipped whole_place (continuing.with_before rule start early (prog (sync ++ z)))
     pub rest : (z : List Placed) → found_in true ((before ++ sync) ++ z) ≡ at_found (length before) place (prog (sync ++ z))
 
   alone_at : (m : List Placed) → units_of m ≡ pattern_of p → syncing.IsJoined Spells why rule start p v k [] m
@@ -163,7 +158,7 @@ module _ {S V : Type 0} (Spells : V → List Placed → Type 0) (why : List Plac
         let n = units_length a in let o = units_length c in omega arith
 
     -- the rest by itself
-    pub rest_at : (place : Place) → prog m ≡ ended ((v, place) ∷ []) → (z : List Placed) → found_in true ((a ++ m) ++ z) ≡ at_found (length a) place (prog (m ++ z))
+    pub rest_at : (place : Place) → prog m ≡ continuing.ended rule start ((v, place) ∷ []) → (z : List Placed) → found_in true ((a ++ m) ++ z) ≡ at_found (length a) place (prog (m ++ z))
     rest_at place alone z = elim (by_mode true (a ++ m)) [
       | inl r ↦
           let f = r.first refl in
@@ -184,7 +179,7 @@ module _ {S V : Type 0} (Spells : V → List Placed → Type 0) (why : List Plac
       early : List (V × Place)
       front : List Placed
       joined : syncing.IsJoined Spells why rule start p v k front m
-      all : (z : List Placed) → prog (r.seen ++ z) ≡ with_before early (prog (m ++ z))
+      all : (z : List Placed) → prog (r.seen ++ z) ≡ continuing.with_before rule start early (prog (m ++ z))
 
     within : (r : Reads h (u ++ (a ++ m))) (c : List Placed) → (prog r.seen).fault ≡ None → u ≡ r.front ++ c → Goes r
     within r c sound e =
@@ -265,3 +260,47 @@ module _ {S V : Type 0} (Spells : V → List Placed → Type 0) (why : List Plac
         let s = parts_of r.seen (pattern_of p) i.0 i.1 in
         inl (lock_at h u r.front s.0 s.1 w (r.parts ∙ ap (λ (l : List Placed). r.front ++ l) s.2 ∙ sym (append_assoc r.front s.0 s.1)) s.3 f sound)
   ]
+
+  abbrev size : ℕ
+  size = length (pattern_of p)
+
+  pub front_length : (h : Bool) (u w : List Placed) (l : IsLock h u w) → length (l.before ++ l.sync) ≡ length l.before + size
+  front_length h u w l = let i = length-append l.before l.sync in let j = ap length l.pattern in let n = units_length l.sync in omega arith
+
+  -- what is read of what is found has a fault where that has one
+  pub sound_in : {R : Type 0} (fault : R → Option (Place × Reason)) (whole : Bool → List Placed → R) →
+      ((h : Bool) (x : List Placed) (n : ℕ) (place : Place) (q : Progress S V) → found_in h x ≡ at_found n place q → fault (whole h x) ≡ q.fault) →
+      (h : Bool) (x : List Placed) → fault (whole h x) ≡ None → Sound (found_in h x)
+  sound_in fault whole same h x e = by (found_in h x) refl where
+    by : (o : Option (Found S V)) → found_in h x ≡ o → Sound o
+    by None i = tt
+    by (Some f) i = sym (same h x f.skipped f.place f.reading i) ∙ e
+
+  -- where it is known when a v has ended, since the pattern ends there
+  module _ (Ended : List Placed → Type 0) (closes : (x : List Placed) → Ended x → EndsWith (pattern_of p) (units_of x)) where
+    -- one that ends in the rest has the pattern there
+    stands_there : (u w front : List Placed) → EndsIn Ended size u w front →
+        (c : List ℕ) × (length c + size ≡ length front) × IsAfter (pattern_of p) (units_of w) c
+    stands_there u w front g =
+        let e = closes (u ++ front) g.ended in
+        let long = g.long in
+        let s = ends_within (units_of u) (units_of front) e.0 (pattern_of p) (sym (units_append u front) ∙ e.1) (let n = units_length front in omega arith) in (
+          s.0,
+          (let n = units_length front in let i = ap length s.1 in let j = length-append s.0 (pattern_of p) in omega arith),
+          (units_of g.more, ap units_of g.parts ∙ units_append front g.more ∙ ap (λ (y : List ℕ). y ++ units_of g.more) s.1 ∙ append_assoc s.0 (pattern_of p) (units_of g.more)),
+        )
+
+    pub first_end : (h : Bool) (u w : List Placed) (l : IsLock h u w) → Ended (u ++ (l.before ++ l.sync)) → EndsFirst Ended size u w (l.before ++ l.sync)
+    first_end h u w l e = record {
+      is_sync = record { more = l.after; parts = l.parts; long = (let n = front_length h u w l in omega arith); ended = e };
+      least = λ other s. (let c = stands_there u w other s in let i = l.first.least c.0 c.2 in let n = front_length h u w l in let o = units_length l.before in let q = c.1 in omega arith);
+    }
+
+    -- none ends in the rest, or the rest locks
+    pub rest_locks : (h : Bool) (u w : List Placed) → Sound (found_in h (u ++ w)) → (R : Type 0) (Q : List Placed → Type 0) →
+        ((hunt_of w).found ≡ None → R) → ((l : IsLock h u w) → Q (l.before ++ l.sync)) →
+        (((front : List Placed) → EndsIn Ended size u w front → ⊥) × R) ⊎ ((front : List Placed) × Q front)
+    rest_locks h u w sound R Q skips locked = elim (locks h u w sound) [
+      | inl l ↦ inr (l.before ++ l.sync, locked l)
+      | inr n ↦ inl (λ front s. (let c = stands_there u w front s in n.0 c.0 c.2), skips n.1)
+    ]

@@ -1,16 +1,16 @@
 -- What the rest of a source's units reads as, against the whole.
-use Rattle.std.proofs.Common.{◌≡◌, ℕ, ◌+◌, ◌-◌, List, [], ◌∷◌, ◌++◌, length, length-append, refl, sym, ◌∙◌, ap, subst, ◌⊎◌, inl, inr, arith, append_assoc, append-nil, Bool, true, false, Option, None, Some}
+use Rattle.std.proofs.Common.{◌≡◌, ℕ, ◌-◌, List, [], ◌∷◌, ◌++◌, length, refl, sym, ◌∙◌, ap, subst, ◌⊎◌, inl, inr, arith, append_assoc, append-nil, Bool, true, false, Option, None}
 use Rattle.std.specs.List.{AllByRecursion}
 use Rattle.std.proofs.lemmas.List.{map-append, nil_from_length, same_from_push}
-use Rattle.resync_rules.specs.Names.{Reason, Next, Place, Placed, units_of, Progress, Splits, progress, IsAfter}
+use Rattle.resync_rules.specs.Names.{Reason, Next, Place, Placed, units_of, Progress, Splits, progress}
 use Rattle.resync_rules.specs.Names.{EndsWith, Pattern, pattern_of, Found, hunt, hunted_by, stream_in, Stream, Said}
 use Rattle.resync_rules.specs.Names.{Notice, Kept, kept, shown}
 use Rattle.trace_values.proofs.Readings as readings
 use Rattle.trace_values.proofs.Standings.{from_append}
-use Rattle.resync_rules.specs.Fronts.{Hunting, HasEnded, IsSync, all_skipped, Locks, IsRest}
+use Rattle.resync_rules.specs.Fronts.{Hunting, HasEnded, SyncEnds, all_skipped, Locks, IsRest}
 use Rattle.resync_rules.specs.Syncing.{Syncs, hunting_for}
 use Rattle.resync_rules.proofs.Continuing as continuing
-use Rattle.resync_rules.proofs.Syncing.{units_append, units_length, splits_last, ends_within}
+use Rattle.resync_rules.proofs.Syncing.{units_append, splits_last}
 use Rattle.resync_rules.proofs.Locking as locking
 
 abbrev silent : {V : Type 0} → List (Said V × Place) → Type 0
@@ -136,36 +136,22 @@ module _ {S V : Type 0} (Spells : V → List Placed → Type 0) (why : List Plac
   abbrev pub hunting : Bool → Hunting V
   hunting h = hunting_for p v rule start h
 
-  -- a whole v in the rest has the pattern there
-  stands_there : (h : Bool) (u w front : List Placed) → IsSync (hunting h) u w front → (c : List ℕ) × (length c + size ≡ length front) × IsAfter (pattern_of p) (units_of w) c
-  stands_there h u w front g =
-      let e = ends_pattern h (u ++ front) g.ended in
-      let long = g.long in
-      let s = ends_within (units_of u) (units_of front) e.0 (pattern_of p) (sym (units_append u front) ∙ e.1) (let n = units_length front in omega arith) in (
-        s.0,
-        (let n = units_length front in let i = ap length s.1 in let j = length-append s.0 (pattern_of p) in omega arith),
-        (units_of g.more, ap units_of g.parts ∙ units_append front g.more ∙ ap (λ (y : List ℕ). y ++ units_of g.more) s.1 ∙ append_assoc s.0 (pattern_of p) (units_of g.more)),
-      )
-
   module _ (h : Bool) (u w : List Placed) (l : locking.IsLock Spells why rule start p v k h u w) where
     abbrev front : List Placed
     front = l.before ++ l.sync
 
-    front_length : length front ≡ length l.before + size
-    front_length = let i = length-append l.before l.sync in let j = ap length l.pattern in let n = units_length l.sync in omega arith
-
     nothing_more : l.sync ++ [] ≡ l.sync
     nothing_more = append-nil l.sync
 
-    then : stream h (u ++ front) ≡ shown (notice h l.skipped l.whole_place) l.skipped (locking.with_before Spells why rule start p v k l.early (prog l.sync))
+    then : stream h (u ++ front) ≡ shown (notice h l.skipped l.whole_place) l.skipped (continuing.with_before rule start l.early (prog l.sync))
     then =
-        shows h (u ++ front) l.skipped l.whole_place (locking.with_before Spells why rule start p v k l.early (prog l.sync))
+        shows h (u ++ front) l.skipped l.whole_place (continuing.with_before rule start l.early (prog l.sync))
         (ap (λ (z : List Placed). found_in h (u ++ z)) (sym (append-nil front)) ∙ l.whole []
-        ∙ ap (λ (z : List Placed). at_found l.skipped l.whole_place (locking.with_before Spells why rule start p v k l.early (prog z))) nothing_more)
+        ∙ ap (λ (z : List Placed). at_found l.skipped l.whole_place (continuing.with_before rule start l.early (prog z))) nothing_more)
 
-    now : (z : List Placed) → stream h (u ++ (front ++ z)) ≡ shown (notice h l.skipped l.whole_place) l.skipped (locking.with_before Spells why rule start p v k l.early (prog (l.sync ++ z)))
+    now : (z : List Placed) → stream h (u ++ (front ++ z)) ≡ shown (notice h l.skipped l.whole_place) l.skipped (continuing.with_before rule start l.early (prog (l.sync ++ z)))
     now z =
-        shows h (u ++ (front ++ z)) l.skipped l.whole_place (locking.with_before Spells why rule start p v k l.early (prog (l.sync ++ z))) (l.whole z)
+        shows h (u ++ (front ++ z)) l.skipped l.whole_place (continuing.with_before rule start l.early (prog (l.sync ++ z))) (l.whole z)
 
     rest_is : (z : List Placed) → stream true (front ++ z) ≡ shown ((Notice (length l.before), l.place) ∷ []) (length l.before) (prog (l.sync ++ z))
     rest_is z = shows true (front ++ z) (length l.before) l.place (prog (l.sync ++ z)) (l.rest z)
@@ -205,19 +191,13 @@ module _ {S V : Type 0} (Spells : V → List Placed → Type 0) (why : List Plac
         ∙ ap (λ (y : List (V × Place)). made (length l.before) l.place y (prog (l.sync ++ z)).fault (length (prog (l.sync ++ z)).rest)) e
         ∙ ap (λ (y : Stream V). made (length l.before) l.place ((v, l.place) ∷ items) y.fault y.held) (sym (now z))
         ∙ ap (λ (x : Place). made (length l.before) x ((v, x) ∷ items) (stream h (u ++ (front ++ z))).fault (stream h (u ++ (front ++ z))).held) l.at
-        ∙ ap (λ (n : ℕ). made n l.last.place ((v, l.last.place) ∷ items) (stream h (u ++ (front ++ z))).fault (stream h (u ++ (front ++ z))).held) (let n = front_length in let q : length l.before ≡ length front - size = omega arith in q)
+        ∙ ap (λ (n : ℕ). made n l.last.place ((v, l.last.place) ∷ items) (stream h (u ++ (front ++ z))).fault (stream h (u ++ (front ++ z))).held) (let n = locking.front_length Spells why rule start p v k h u w l in let q : length l.before ≡ length front - size = omega arith in q)
 
     pub locked : Locks (hunting h) u w front
     locked = record {
-      first = record {
-        is_sync = record {
-          more = l.after;
-          parts = l.parts;
-          long = (let n = front_length in omega arith);
-          ended = record { before = early; place = l.last.place; given = then_given; held = then_held };
-        };
-        least = λ other s. (let c = stands_there h u w other s in let i = l.first.least c.0 c.2 in let n = front_length in let o = units_length l.before in let q = c.1 in omega arith);
-      };
+      first =
+          locking.first_end Spells why rule start p v k (SyncEnds (hunting h)) (ends_pattern h) h u w l
+          (record { before = early; place = l.last.place; given = then_given; held = then_held });
       start = l.before ++ l.ends.0;
       last = l.last;
       ends = ap (λ (z : List Placed). l.before ++ z) l.ends.1 ∙ sym (append_assoc l.before l.ends.0 (l.last ∷ []));
@@ -232,14 +212,7 @@ module _ {S V : Type 0} (Spells : V → List Placed → Type 0) (why : List Plac
 
   -- what the rest of a source reads as
   pub is_rest : (h : Bool) (u w : List Placed) → (stream h (u ++ w)).fault ≡ None → IsRest (hunting h) u w
-  is_rest h u w f = elim (locking.locks Spells why rule start p v k h u w (sound h f)) [
-    | inl l ↦ inr (l.before ++ l.sync, locked h u w l)
-    | inr n ↦ inl (λ front s. (let c = stands_there h u w front s in n.0 c.0 c.2), skips w n.1)
-  ] where
-    sound_by : (o : Option (Found S V)) (n : ℕ) → (hunted_by n o).fault ≡ None → locking.Sound Spells why rule start p v k o
-    sound_by None n e = tt
-    sound_by (Some g) n e = e
-
-    sound : (h : Bool) → (stream h (u ++ w)).fault ≡ None → locking.Sound Spells why rule start p v k (found_in h (u ++ w))
-    sound false e = e
-    sound true e = sound_by (hunt p v rule start (u ++ w)).found (hunt p v rule start (u ++ w)).units e
+  is_rest h u w f =
+      locking.rest_locks Spells why rule start p v k (SyncEnds (hunting h)) (ends_pattern h) h u w
+      (locking.sound_in Spells why rule start p v k (λ (z : Stream V). z.fault) stream (λ h x n place q e. ap (λ (z : Stream V). z.fault) (shows h x n place q e)) h (u ++ w) f)
+      (stream true w ≡ all_skipped (length w)) (Locks (hunting h) u w) (skips w) (locked h u w)

@@ -7,24 +7,22 @@ use Rattle.resync_rules.specs.Names.{IsReading, Stream, Said, Notice, Kept, kept
 abbrev pub BeginsWith : List ℕ → List ℕ → Type 0
 BeginsWith pattern u = (v : List ℕ) × (u ≡ pattern ++ v)
 
--- One of these values is v, and it ends where this front ends: the values up to it, spelled one after the other, are
--- the front.
-pub record EndsAt {V : Type 0} (Spells : V → List Placed → Type 0) (v : V) (items : List (V × Place))
-    (front : List Placed) : Type 0 where
+-- One of these values is v, and this is so of the values before it and its place.
+pub record StandsAt {V : Type 0} (v : V) (items : List (V × Place)) (Is : List (V × Place) → Place → Type 0)
+    : Type 0 where
   pub early : List (V × Place)
   pub place : Place
   pub later : List (V × Place)
   pub parts : items ≡ early ++ ((v, place) ∷ later)
-  pub spelled : Splits Spells (early ++ (v, place) ∷ []) [] front
+  pub spelled : Is early place
 
--- One of these values is v, and it begins where this front ends: the values before it are spelled by the front.
-pub record BeginsAt {V : Type 0} (Spells : V → List Placed → Type 0) (v : V) (items : List (V × Place))
-    (front : List Placed) : Type 0 where
-  pub early : List (V × Place)
-  pub place : Place
-  pub later : List (V × Place)
-  pub parts : items ≡ early ++ ((v, place) ∷ later)
-  pub spelled : Splits Spells early [] front
+-- It ends where this front ends: the values up to it, spelled one after the other, are the front.
+abbrev pub EndsAt : {V : Type 0} → (V → List Placed → Type 0) → V → List (V × Place) → List Placed → Type 0
+EndsAt Spells v items front = StandsAt v items (λ early place. Splits Spells (early ++ (v, place) ∷ []) [] front)
+
+-- It begins where this front ends: the values before it are spelled by the front.
+abbrev pub BeginsAt : {V : Type 0} → (V → List Placed → Type 0) → V → List (V × Place) → List Placed → Type 0
+BeginsAt Spells v items front = StandsAt v items (λ early place. Splits Spells early [] front)
 
 -- In each list that is spellings and then a tail, the pattern ends exactly where a v ends.
 abbrev pub EndsOnly : {V : Type 0} → (V → List Placed → Type 0) → (List Placed → Reason) → List ℕ → V → Type 0
@@ -55,18 +53,28 @@ pub record HasEnded {V : Type 0} (v : V) (s : Stream V) : Type 0 where
   pub given : s.given ≡ before ++ (Kept v, place) ∷ []
   pub held : s.held ≡ 0
 
--- With this front of the rest a sync of the whole list ends, and its last units, as many as the pattern has, are all in
--- the rest.
-pub record IsSync {V : Type 0} (h : Hunting V) (lost rest front : List Placed) : Type 0 where
+-- With this front of the rest a sync of the whole list ends, as `Ended` says of the units up to there, and its last
+-- units, so many, are all in the rest.
+pub record EndsIn (Ended : List Placed → Type 0) (size : ℕ) (lost rest front : List Placed) : Type 0 where
   pub more : List Placed
   pub parts : rest ≡ front ++ more
-  pub long : h.size ≤ length front
-  pub ended : HasEnded h.sync (h.whole (lost ++ front))
+  pub long : size ≤ length front
+  pub ended : Ended (lost ++ front)
 
 -- It is the first one.
-pub record IsFirstSync {V : Type 0} (h : Hunting V) (lost rest front : List Placed) : Type 0 where
-  pub is_sync : IsSync h lost rest front
-  pub least : (other : List Placed) → IsSync h lost rest other → length front ≤ length other
+pub record EndsFirst (Ended : List Placed → Type 0) (size : ℕ) (lost rest front : List Placed) : Type 0 where
+  pub is_sync : EndsIn Ended size lost rest front
+  pub least : (other : List Placed) → EndsIn Ended size lost rest other → length front ≤ length other
+
+-- with these units a sync of the whole list ends
+abbrev pub SyncEnds : {V : Type 0} → Hunting V → List Placed → Type 0
+SyncEnds h units = HasEnded h.sync (h.whole units)
+
+abbrev pub IsSync : {V : Type 0} → Hunting V → List Placed → List Placed → List Placed → Type 0
+IsSync h lost rest front = EndsIn (SyncEnds h) h.size lost rest front
+
+abbrev pub IsFirstSync : {V : Type 0} → Hunting V → List Placed → List Placed → List Placed → Type 0
+IsFirstSync h lost rest front = EndsFirst (SyncEnds h) h.size lost rest front
 
 -- all units are skipped
 abbrev pub all_skipped : {V : Type 0} → ℕ → Stream V

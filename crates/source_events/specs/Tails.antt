@@ -37,8 +37,7 @@ port_mode FramesHunt false = Hunting
 -- and a source whose packets are read so
 abbrev pub packets_mode : PacketsMode → Bool → PortMode
 packets_mode PacketsAligned locked = Aligned
-packets_mode PacketsHunt true = Locked
-packets_mode PacketsHunt false = Hunting
+packets_mode PacketsHunt locked = port_mode FramesHunt locked
 
 -- how a mapped source of this kind was read
 abbrev pub tail_of : Plan → PortReading → ℕ → SourceKind → SourceTail

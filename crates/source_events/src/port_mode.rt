@@ -42,13 +42,7 @@ impl PortMode {
     {
         match packets {
             PacketsMode::Aligned => PortMode::Aligned,
-            PacketsMode::Hunt => {
-                if locked {
-                    PortMode::Locked
-                } else {
-                    PortMode::Hunting
-                }
-            }
+            PacketsMode::Hunt => PortMode::of_port(FramesMode::Hunt, locked),
         }
     }
 }

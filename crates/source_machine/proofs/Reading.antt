@@ -1,18 +1,26 @@
 -- What the machine of a source reads its bytes as.
 use Rattle.std.proofs.Common.{◌≡◌, ◌∙◌, List, Bool, ap, refl}
-use Rattle.source_machine.specs.Names.{Placed, Stream, ItmPacket, ItmDecoder, packets_in, Order, StpDecoder, items_in}
+use Rattle.source_machine.specs.Names.{Placed, Stream, Packet, ItmDecoder, packets_in, Order, StpDecoder, items_in}
 use Rattle.source_machine.specs.Names.{Itm as ItmKind, Stp as StpKind, stream_as}
 use Rattle.itm_codec.specs.Decoder as itm
+use Rattle.itm_codec.specs.Parts.{Stays}
 use Rattle.stp_codec.specs.Decoder as stp
 use Rattle.source_machine.specs.declared.machine.SourceMachine.TheVariants.{Itm, Stp}
 use Rattle.source_machine.specs.Machine.{reading_of}
 use Rattle.source_events.specs.declared.plan.SourceKind.TheVariants.{Stp as StpSource}
 use Rattle.source_machine.specs.Units.{ReadsAlike, reading_on, reads_by}
 
+-- a reading with its items seen as packets
+abbrev pub seen : {V : Type 0} → (V → Packet) → (List Placed → Stream V) → List Placed → Stream Packet
+seen f reading u = stream_as f (reading u)
+
 -- a source reads the same while its decoder does
-pub itm_same : (old new : ItmDecoder) → packets_in (itm.is_hunter new) ≡ packets_in (itm.is_hunter old) →
-    reading_of (Itm new) ≡ reading_of (Itm old)
-itm_same old new e = ap (λ (r : List Placed → Stream ItmPacket). λ (u : List Placed). stream_as ItmKind (r u)) e
+pub seen_same : {V : Type 0} (f : V → Packet) (new old : List Placed → Stream V) → new ≡ old →
+    seen f new ≡ seen f old
+seen_same f new old e = ap (seen f) e
+
+pub itm_same : (old new : ItmDecoder) → Stays old new → reading_of (Itm new) ≡ reading_of (Itm old)
+itm_same old new e = seen_same ItmKind _ _ e.0
 
 -- an STP source while its decoder's order and mode are the same
 pub stp_same : (old new : StpDecoder) → stp.Stays old new → reading_of (Stp new) ≡ reading_of (Stp old)
@@ -21,8 +29,7 @@ stp_same old new e =
     ∙ ap (λ (h : Bool). λ (u : List Placed). stream_as StpKind (items_in (stp.order_of old) h u)) e.1
 
 -- and its units
-pub itm_alike : (old new : ItmDecoder) → packets_in (itm.is_hunter new) ≡ packets_in (itm.is_hunter old) →
-    ReadsAlike (Itm old) (Itm new)
+pub itm_alike : (old new : ItmDecoder) → Stays old new → ReadsAlike (Itm old) (Itm new)
 itm_alike old new e = record { kind = refl; any = refl; own = itm_same old new e }
 
 -- those of an STP source by the order of its nibbles, and by whether it hunts

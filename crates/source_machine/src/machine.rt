@@ -88,6 +88,16 @@ impl SourceMachine {
     }
 }
 
+/// What the decoder of a source shows by this method.
+macro_rules! shown_by {
+    ($source:expr, $method:ident) => {
+        match $source {
+            SourceMachine::Itm(decoder) => decoder.$method(),
+            SourceMachine::Stp(decoder) => decoder.$method(),
+        }
+    };
+}
+
 impl Machine for SourceMachine {
     ghost use Rattle.source_machine.specs.Names.{PacketFits};
     ghost use Rattle.source_machine.specs.Machine.{reading_of, Stands, is_live, has_locked, held_of, skipped_by};
@@ -132,30 +142,18 @@ impl Machine for SourceMachine {
     }
 
     fn is_live(&self) -> bool {
-        match self {
-            SourceMachine::Itm(decoder) => decoder.is_live(),
-            SourceMachine::Stp(decoder) => decoder.is_live(),
-        }
+        shown_by!(self, is_live)
     }
 
     fn is_locked(&self) -> bool {
-        match self {
-            SourceMachine::Itm(decoder) => decoder.is_locked(),
-            SourceMachine::Stp(decoder) => decoder.is_locked(),
-        }
+        shown_by!(self, is_locked)
     }
 
     fn held(&self) -> u64 {
-        match self {
-            SourceMachine::Itm(decoder) => decoder.held(),
-            SourceMachine::Stp(decoder) => decoder.held(),
-        }
+        shown_by!(self, held)
     }
 
     fn skipped(&self) -> u64 {
-        match self {
-            SourceMachine::Itm(decoder) => decoder.skipped(),
-            SourceMachine::Stp(decoder) => decoder.skipped(),
-        }
+        shown_by!(self, skipped)
     }
 }

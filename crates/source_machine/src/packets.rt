@@ -132,6 +132,34 @@ pub trait Finds: Machine {
         Rises (reads m u) (reads m (u ++ byte_at at byte ∷ [])) at };
 }
 
+/// Takes bytes at once by a decoder of this kind, as a machine of sources does. Those before its reading end in `half`.
+macro_rules! take_packets {
+    ($decoder:expr, $bytes:expr, $half:expr, $kind:ident) => {{
+        if !$decoder.is_locked() {
+            let bytes = $decoder.skip_part($bytes);
+            return if bytes > 0 {
+                Some(TakenAtOnce {
+                    bytes,
+                    half: $half,
+                    item: None,
+                })
+            } else {
+                None
+            };
+        }
+        let taken = $decoder.take_part($bytes)?;
+        Some(TakenAtOnce {
+            bytes: taken.bytes,
+            half: taken.half,
+            item: match taken.item {
+                None => None,
+                Some(item) => Some(Packet::$kind(item)),
+            },
+        })
+    }};
+}
+
+#[tactic(auto, using(crate::proofs::Reading::itm_same, crate::proofs::Reading::itm_alike))]
 impl Finds for ItmDecoder {
     ghost use Rattle.itm_codec.specs.Parts.{EndsPart};
     ghost use Rattle.source_events.specs.declared.plan.SourceKind.TheVariants.{Itm as ItmKind};
@@ -180,27 +208,7 @@ impl Finds for ItmDecoder {
 
     #[inline(always)]
     fn take(&mut self, bytes: &[u8]) -> Option<TakenAtOnce<Packet>> {
-        if !self.is_locked() {
-            let bytes = self.skip_part(bytes);
-            return if bytes > 0 {
-                Some(TakenAtOnce {
-                    bytes,
-                    half: 0,
-                    item: None,
-                })
-            } else {
-                None
-            };
-        }
-        let taken = self.take_part(bytes)?;
-        Some(TakenAtOnce {
-            bytes: taken.bytes,
-            half: taken.half,
-            item: match taken.item {
-                None => None,
-                Some(packet) => Some(Packet::Itm(packet)),
-            },
-        })
+        take_packets!(self, bytes, 0, Itm)
     }
 
     #[inline(always)]
@@ -209,6 +217,7 @@ impl Finds for ItmDecoder {
     }
 }
 
+#[tactic(auto, using(crate::proofs::Reading::stp_same, crate::proofs::Reading::stp_alike))]
 impl Finds for StpDecoder {
     ghost use Rattle.source_events.specs.declared.plan.SourceKind.TheVariants.{Stp as StpKind};
     ghost use Rattle.source_machine.specs.Finding.{stp_bytes};
@@ -261,27 +270,7 @@ impl Finds for StpDecoder {
 
     #[inline(always)]
     fn take(&mut self, bytes: &[u8]) -> Option<TakenAtOnce<Packet>> {
-        if !self.is_locked() {
-            let bytes = self.skip_part(bytes);
-            return if bytes > 0 {
-                Some(TakenAtOnce {
-                    bytes,
-                    half: 1,
-                    item: None,
-                })
-            } else {
-                None
-            };
-        }
-        let taken = self.take_part(bytes)?;
-        Some(TakenAtOnce {
-            bytes: taken.bytes,
-            half: taken.half,
-            item: match taken.item {
-                None => None,
-                Some(item) => Some(Packet::Stp(item)),
-            },
-        })
+        take_packets!(self, bytes, 1, Stp)
     }
 
     #[inline(always)]

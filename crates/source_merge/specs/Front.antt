@@ -10,6 +10,7 @@ use Rattle.source_merge.specs.declared.engine.Engine.{Engine}
 use Rattle.source_merge.specs.declared.engine.TheConstants.{GREATEST_OFFSET}
 use Rattle.source_merge.specs.Answering.{Answers, fault_by, fault_of, goes_on, report_of}
 use Rattle.source_merge.specs.Engine.{Stands, is_live, next_of, plan_of}
+use Rattle.source_merge.specs.Giving.{GivesTo}
 
 -- there is no formatter, and the slot of source 1 has this index
 abbrev pub IsBare : Engine → ℕ → Type 0
@@ -42,6 +43,14 @@ pub record TakesGathered (old new : Engine) (frame : PlacedFrame) (flow : Flow) 
 abbrev pub GivesLast : Engine → ℕ → List ℕ → Flow → List (Event Packet) → Type 0
 GivesLast engine at bytes flow given = (u : List Placed) → Stands engine u →
     FedAs (Answers (plan_of engine) [] Going) (Answers (plan_of engine) given flow) u at bytes
+
+-- It took bytes of the piece, whose first is at this offset. What takes the events got those of the last of them, and
+-- has lost room for at most 30.
+pub record TakesLast {S : Type 0} (gets : S → List (Event Packet) → S → Type 0) (room : S → ℕ) (at : ℕ)
+    (piece : List ℕ) (old new : Engine × S) (taken : Fed) : Type 0 where
+  pub takes : TakesFront old.0 new.0 at piece taken
+  pub space : room old.1 ≤ room new.1 + 30
+  pub fed : GivesTo gets old.1 new.1 (GivesLast old.0 at (take taken.bytes piece) taken.flow)
 
 -- With the last of these bytes, which follow u from this offset on, a fault is certain.
 pub record IsCertain (plan : Plan) (u : List Placed) (at : ℕ) (bytes : List ℕ) : Type 0 where

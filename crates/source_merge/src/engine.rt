@@ -83,6 +83,7 @@ impl Engine {
     ghost use Rattle.source_merge.specs.declared.flow.Flow.TheVariants.{Going};
     ghost use Rattle.source_merge.specs.Engine.{Stands, is_live, next_of, plan_of};
     ghost use Rattle.source_merge.specs.Front.{GivesLast, IsBare, IsNext, ReadsTo, TakesFront, TakesGathered};
+    ghost use Rattle.source_merge.specs.Front.{TakesLast};
     ghost use Rattle.source_merge.specs.Piece.{bytes_in};
 
     /// An engine before the first byte. Its plan is sound.
@@ -304,10 +305,8 @@ impl Engine {
     ) -> Fed
         requires next { IsNext self.old at (length piece.now) }
         requires space { 30 ≤ V.room (out.old, to.old) }
-        ensures takes { TakesFront self.old self.new at piece.now result }
-        ensures space { V.room (out.old, to.old) ≤ V.room (out.new, to.new) + 30 }
-        ensures fed { GivesTo V.gets (out.old, to.old) (out.new, to.new)
-            (GivesLast self.old at (take result.bytes piece.now) result.flow) }
+        ensures { TakesLast V.gets V.room at piece.now (self.old, (out.old, to.old))
+            (self.new, (out.new, to.new)) result }
     {
         if self.port.is_between() {
             if let Some(frame) = &place_frame(at, piece) {
@@ -327,10 +326,8 @@ impl Engine {
     fn take_step<V: Receiver>(&mut self, at: u64, piece: &[u8], out: &mut V, to: &mut V::To) -> Fed
         requires next { IsNext self.old at (length piece.now) }
         requires space { 30 ≤ V.room (out.old, to.old) }
-        ensures takes { TakesFront self.old self.new at piece.now result }
-        ensures space { V.room (out.old, to.old) ≤ V.room (out.new, to.new) + 30 }
-        ensures fed { GivesTo V.gets (out.old, to.old) (out.new, to.new)
-            (GivesLast self.old at (take result.bytes piece.now) result.flow) }
+        ensures { TakesLast V.gets V.room at piece.now (self.old, (out.old, to.old))
+            (self.new, (out.new, to.new)) result }
     {
         self.cells.clear();
         let taken = self.port.feed_block(at, piece, &mut self.cells);

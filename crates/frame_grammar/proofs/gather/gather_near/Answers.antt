@@ -1,13 +1,13 @@
 use Rattle.std.proofs.Common.{◌+◌, ◌*◌, ℕ, List, [], ◌∷◌, ◌++◌, length, take, drop, ◌≡◌, ◌-◌, ◌/◌, arith, sym, ◌∙◌, ap, refl, get_or, set}
 use Rattle.std.specs.Option.{option_map}
-use Rattle.std.proofs.lemmas.List.{take_rest, length-drop, length-set, length-take-le, map-append}
+use Rattle.std.proofs.lemmas.List.{take_rest, length-drop, length-set, map-append}
 use Rattle.std.proofs.Math.Seq.{take-length}
 use Rattle.frame_grammar.specs.Names.{placed_from}
 use Rattle.frame_grammar.specs.Reading.{offsets_of}
 use Rattle.frame_grammar.specs.Placing.{places_of}
 use Rattle.frame_grammar.specs.Whole.{without_halves}
 use Rattle.frame_grammar.proofs.Gathering.{joined, joined_nothing, gathered, gathers_whole, no_whole, whole_begins, pair_of, ends_short, ends_bad, ends_whole, next_word, next_half, put_word, begins_well, word_placed, half_placed}
-use Rattle.frame_grammar.proofs.Nearness.{behind_near}
+use Rattle.frame_grammar.proofs.Nearness.{begins_piece}
 use Rattle.frame_grammar.proofs.gather.gather_near.Goals as goal
 use Rattle.frame_grammar.proofs.gather.gather_near.Goals.{then-first, else-first+else-words-eq0+else-second-ne127, then-words-eq0-via-then-words-eq0, then-words-eq0-via-else-words-eq0+then-second-ne127}
 
@@ -60,10 +60,6 @@ loop-words-preserved c =
     let words = c.loop-words.words in
     let bytes = c.loop-words.bytes in
     let i = c.loop-words.invariant in
-    let few = c.loop-words-test.true in
-    let enough = i.enough in
-    let even = i.even in
-    let size = i.size in
     let chunk = c.in_ok-first.field-0.now in
     let pair = pair_of p chunk from c.in_ok-first.ensures.cases in
     elim c.if-first.branch [
@@ -80,14 +76,14 @@ loop-words-preserved c =
             few = omega arith;
             enough = omega arith;
             even = omega arith;
-            size = ap length b ∙ length-set (set bytes (2 * words) (get_or chunk 0 0)) (2 * words + 1) (get_or chunk 1 0) ∙ length-set bytes (2 * words) (get_or chunk 0 0) ∙ size;
+            size = ap length b ∙ length-set (set bytes (2 * words) (get_or chunk 0 0)) (2 * words + 1) (get_or chunk 1 0) ∙ length-set bytes (2 * words) (get_or chunk 0 0) ∙ i.size;
             places = ap length o ∙ length-set (set behind (2 * words) from) (2 * words + 1) (from + 1) ∙ length-set behind (2 * words) from ∙ i.places;
             placed =
                 ap (places_of c.args.at) (ap (take (2 * c.if-first.words)) o ∙ put_word behind (2 * words) (2 * c.if-first.words) from (from + 1) (omega arith) (omega arith))
                 ∙ map-append (λ (b : ℕ). c.args.at + b) (take (2 * words) behind) (from ∷ ((from + 1) ∷ []))
                 ∙ ap (λ (m : ℕ). places_of c.args.at (take (2 * words) behind) ++ ((c.args.at + from) ∷ (m ∷ []))) (let d : c.args.at + (from + 1) ≡ c.args.at + from + 1 = omega arith in d)
                 ∙ ap (λ (l : List ℕ). l ++ ((c.args.at + from) ∷ ((c.args.at + from + 1) ∷ []))) i.placed
-                ∙ sym (word_placed c.args.at from (get_or chunk 0 0) (get_or chunk 1 0) p (drop (from + 2) p) pair.parts pair.room even w.if-first.true);
+                ∙ sym (word_placed c.args.at from (get_or chunk 0 0) (get_or chunk 1 0) p (drop (from + 2) p) pair.parts pair.room i.even w.if-first.true);
             none = λ e. absurd (omega arith);
             begins = λ x r m e. begins_well words from (get_or chunk 0 0) p (get_or chunk 1 0 ∷ drop (from + 2) p) i.none i.begins pair.parts w.if-first.true x r e;
             so_far = next_word p (drop from p) (take (2 * words) bytes) (8 - words) (8 - c.if-first.words) (from / 2 - words) i.so_far (omega arith)
@@ -104,11 +100,11 @@ loop-words-preserved c =
             few = omega arith;
             enough = omega arith;
             even = omega arith;
-            size = ap length b ∙ size;
+            size = ap length b ∙ i.size;
             places = ap length w.behind-is ∙ i.places;
             placed =
                 ap (places_of c.args.at) (ap (λ (m : ℕ). take (2 * m) c.if-first.behind) n ∙ ap (take (2 * words)) w.behind-is) ∙ i.placed
-                ∙ sym (half_placed c.args.at from (get_or chunk 0 0) (get_or chunk 1 0) p (drop (from + 2) p) pair.parts pair.room even w.if-first.false w.if-second-ne127.false);
+                ∙ sym (half_placed c.args.at from (get_or chunk 0 0) (get_or chunk 1 0) p (drop (from + 2) p) pair.parts pair.room i.even w.if-first.false w.if-second-ne127.false);
             none = λ e. absurd (omega arith);
             begins = λ x r m e. i.begins x r some e;
             so_far =
@@ -120,42 +116,21 @@ loop-words-preserved c =
           )
     ]
 
-pub returns-clause-whole : goal.returns-clause-whole
-returns-clause-whole c =
+pub returns-clause-front : goal.returns-clause-front
+returns-clause-front c =
     let p = c.args.piece.now in
     let bytes = c.loop-words.bytes in
-    let few = c.loop-words.invariant.few in
-    let all = c.loop-words-test.false in
+    let i = c.loop-words.invariant in
     let words : c.loop-words.words ≡ 8 = omega arith in
     let frame : take (2 * c.loop-words.words) bytes ≡ bytes =
-    ap (λ (n : ℕ). take n bytes) (let d : 2 * c.loop-words.words ≡ length bytes = (let s = c.loop-words.invariant.size in omega arith) in d) ∙ take-length bytes in
-    (gathers_whole p (record { halves = c.loop-words.from / 2 - 8; frame = bytes; rest = drop c.loop-words.from p })
-    (λ x l e. c.loop-words.invariant.begins x l (λ z. absurd (omega arith)) e)
-    (ends_whole p (drop c.loop-words.from p) bytes (8 - c.loop-words.words) (c.loop-words.from / 2 - c.loop-words.words) (c.loop-words.from / 2 - 8)
-    (c.loop-words.invariant.so_far ∙ ap (λ (t : List ℕ). option_map (joined (c.loop-words.from / 2 - c.loop-words.words) t) (gathered (8 - c.loop-words.words) (drop c.loop-words.from p))) frame)
-    (omega arith) (omega arith))).1
-
-pub returns-clause-offsets : goal.returns-clause-offsets
-returns-clause-offsets c =
-    let few = c.loop-words.invariant.few in
-    let all = c.loop-words-test.false in
-    let enough = c.loop-words.invariant.enough in
-    let even = c.loop-words.invariant.even in
-    let places = c.loop-words.invariant.places in
+    ap (λ (n : ℕ). take n bytes) (let d : 2 * c.loop-words.words ≡ length bytes = (let s = i.size in omega arith) in d) ∙ take-length bytes in
     let from : c.loop-words.from ≡ 16 + 2 * (c.loop-words.from / 2 - 8) = omega arith in
-    ap (places_of c.args.at) (sym (take-length c.loop-words.behind) ∙ ap (λ (n : ℕ). take n c.loop-words.behind) (let d : length c.loop-words.behind ≡ 2 * c.loop-words.words = omega arith in d))
-    ∙ c.loop-words.invariant.placed ∙ ap (λ (n : ℕ). offsets_of (without_halves (placed_from c.args.at (take n c.args.piece.now)))) from
-
-pub returns-clause-near : goal.returns-clause-near
-returns-clause-near c = λ i l.
-    let p = c.args.piece.now in
-    let n = 16 + 2 * (c.loop-words.from / 2 - 8) in
-    let few = c.loop-words.invariant.few in
-    let all = c.loop-words-test.false in
-    let enough = c.loop-words.invariant.enough in
-    let even = c.loop-words.invariant.even in
-    let room = c.loop-words.invariant.room in
-    let places = c.loop-words.invariant.places in
-    let size : length (take n p) ≡ n = length-take-le n p (omega arith) in
-    let h = behind_near c.args.at (take n p) c.loop-words.behind (returns-clause-offsets c) i (omega arith) in
-    omega arith
+    begins_piece c.args.at p bytes c.loop-words.behind (c.loop-words.from / 2 - 8) (let r = i.room in omega (arith, r, from))
+    (gathers_whole p (record { halves = c.loop-words.from / 2 - 8; frame = bytes; rest = drop c.loop-words.from p })
+    (λ x l e. i.begins x l (λ z. absurd (omega arith)) e)
+    (ends_whole p (drop c.loop-words.from p) bytes (8 - c.loop-words.words) (c.loop-words.from / 2 - c.loop-words.words) (c.loop-words.from / 2 - 8)
+    (i.so_far ∙ ap (λ (t : List ℕ). option_map (joined (c.loop-words.from / 2 - c.loop-words.words) t) (gathered (8 - c.loop-words.words) (drop c.loop-words.from p))) frame)
+    (omega arith) (omega arith))).1
+    (ap (places_of c.args.at) (sym (take-length c.loop-words.behind) ∙ ap (λ (n : ℕ). take n c.loop-words.behind) (let d : length c.loop-words.behind ≡ 2 * c.loop-words.words = omega arith in d))
+    ∙ i.placed ∙ ap (λ (n : ℕ). offsets_of (without_halves (placed_from c.args.at (take n p)))) from)
+    i.places

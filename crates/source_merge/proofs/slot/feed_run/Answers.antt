@@ -2,9 +2,10 @@ use Rattle.std.proofs.Common.{ℕ, ◌+◌, ◌-◌, ◌*◌, ◌<◌, ◌≤◌
 use Rattle.source_merge.specs.Names.{Fault, Packet, given_after, told, lifted, told_in}
 use Rattle.source_merge.specs.declared.counts.PerSource.{PerSource}
 use Rattle.source_merge.specs.Feeding.{MachineKind, PartFed}
-use Rattle.source_merge.proofs.FedRuns.{FedSoFar, begun, by_part, fed_all, fed_kept, fed_on, last_is, last_of, part, stopped}
+use Rattle.source_merge.proofs.FedRuns.{FedSoFar, begun, by_part, fed_all, fed_kept, fed_on, last_is, last_of, stopped}
 use Rattle.source_merge.proofs.Givings.{given_none, given_within}
 use Rattle.source_merge.proofs.slot.feed_run.Given as bound
+use Rattle.source_merge.proofs.slot.feed_run.Goals.{After-feed_slowly-step}
 use Rattle.source_merge.proofs.slot.feed_run.Goals as goal
 
 -- the kind of its machine
@@ -81,41 +82,32 @@ loop-done-preserved-in-Waits g c =
       early = tt;
     }))
 
+-- a look that told nothing of the bytes took none
+kept : (g : bound.Over) (c : After-feed_slowly-step g) →
+    FedSoFar (kind g) g.V.Receiver.gets g.V.Receiver.room c.args.machine.now (c.args.items.now, (c.args.out.now, c.args.to.now))
+    (g.R.Run.cells c.args.run.now) c.args.source c.loop-done.done c.look.new.machine (c.loop-done.items, (c.loop-done.out, c.loop-done.to))
+kept g c =
+    fed_kept (kind g) g.V.Receiver.gets g.V.Receiver.room c.args.machine.now (c.args.items.now, (c.args.out.now, c.args.to.now))
+    (g.R.Run.cells c.args.run.now) c.args.source c.loop-done.done c.loop-done.machine c.look.new.machine _ c.look.ensures.same
+    c.look.ensures.live (c.look.ensures.idles (λ w. (let z = c.in-Unknown.is in let q = w in cc))) c.loop-done.invariant
+
 pub loop-done-preserved : goal.loop-done-preserved
 loop-done-preserved g c =
-    let run = g.R.Run.cells c.args.run.now in
-    let done = c.loop-done.done in
     let step = c.feed_slowly-step.ensures in
-    let fed = step.fed in
-    let was : PerSource × (_ × _) = (c.loop-done.items, (c.loop-done.out, c.loop-done.to)) in
-    let now : PerSource × (_ × _) = (c.feed_slowly-step.new.items, (c.feed_slowly-step.new.out, c.feed_slowly-step.new.to)) in
-    fed_on (kind g) g.V.Receiver.gets g.V.Receiver.room c.args.machine.now (c.args.items.now, (c.args.out.now, c.args.to.now)) run c.args.source
-    done c.feed_slowly-step.result.bytes c.look.new.machine c.feed_slowly-step.new.machine was now fed.0
-    (fed_kept (kind g) g.V.Receiver.gets g.V.Receiver.room c.args.machine.now (c.args.items.now, (c.args.out.now, c.args.to.now)) run c.args.source
-    done c.loop-done.machine c.look.new.machine was c.look.ensures.same c.look.ensures.live
-    (c.look.ensures.idles (λ w. (let z = c.in-Unknown.is in let q = w in cc))) c.loop-done.invariant)
-    fed.1 g.met.V.Receiver.adds_up.more step.bytes.1
-    (subst (λ (f : Option Fault). PartFed (kind g) c.look.new.machine c.feed_slowly-step.new.machine done c.feed_slowly-step.result.bytes
-    (part (kind g) g.V.Receiver.gets g.V.Receiver.room c.args.machine.now (c.args.items.now, (c.args.out.now, c.args.to.now)) run c.args.source fed.0 f))
-    c.in_default.is fed.2)
+    fed_on (kind g) g.V.Receiver.gets g.V.Receiver.room c.args.machine.now (c.args.items.now, (c.args.out.now, c.args.to.now)) _ c.args.source
+    c.loop-done.done _ c.look.new.machine c.feed_slowly-step.new.machine _ _ _ (kept g (goal.at.loop-done-preserved g c).After-feed_slowly-step)
+    step.fed.1 g.met.V.Receiver.adds_up.more step.bytes.1
+    (subst (λ (f : Option Fault). PartFed (kind g) c.look.new.machine c.feed_slowly-step.new.machine c.loop-done.done c.feed_slowly-step.result.bytes
+    (record { run = g.R.Run.cells c.args.run.now; source = c.args.source; events = step.fed.0; fault = f })) c.in_default.is step.fed.2)
 
 pub returns-in-Some : goal.returns-in-Some
 returns-in-Some g c =
-    let run = g.R.Run.cells c.args.run.now in
-    let done = c.loop-done.done in
     let step = c.feed_slowly-step.ensures in
-    let fed = step.fed in
-    let was : PerSource × (_ × _) = (c.loop-done.items, (c.loop-done.out, c.loop-done.to)) in
-    let now : PerSource × (_ × _) = (c.feed_slowly-step.new.items, (c.feed_slowly-step.new.out, c.feed_slowly-step.new.to)) in
-    stopped (kind g) g.V.Receiver.gets g.V.Receiver.room c.args.machine.now (c.args.items.now, (c.args.out.now, c.args.to.now)) run c.args.source
-    done c.feed_slowly-step.result.bytes c.look.new.machine c.feed_slowly-step.new.machine was now fed.0
-    (fed_kept (kind g) g.V.Receiver.gets g.V.Receiver.room c.args.machine.now (c.args.items.now, (c.args.out.now, c.args.to.now)) run c.args.source
-    done c.loop-done.machine c.look.new.machine was c.look.ensures.same c.look.ensures.live
-    (c.look.ensures.idles (λ w. (let z = c.in-Unknown.is in let q = w in cc))) c.loop-done.invariant)
-    fed.1 g.met.V.Receiver.adds_up.more g.met.M.Finds.reads_settles step.bytes.1 c.in-Some.fault
-    (subst (λ (f : Option Fault). PartFed (kind g) c.look.new.machine c.feed_slowly-step.new.machine done c.feed_slowly-step.result.bytes
-    (part (kind g) g.V.Receiver.gets g.V.Receiver.room c.args.machine.now (c.args.items.now, (c.args.out.now, c.args.to.now)) run c.args.source fed.0 f))
-    c.in-Some.is fed.2)
+    stopped (kind g) g.V.Receiver.gets g.V.Receiver.room c.args.machine.now (c.args.items.now, (c.args.out.now, c.args.to.now)) _ c.args.source
+    c.loop-done.done _ c.look.new.machine c.feed_slowly-step.new.machine _ _ _ (kept g (goal.at.returns-in-Some g c).After-feed_slowly-step)
+    step.fed.1 g.met.V.Receiver.adds_up.more g.met.M.Finds.reads_settles step.bytes.1 c.in-Some.fault
+    (subst (λ (f : Option Fault). PartFed (kind g) c.look.new.machine c.feed_slowly-step.new.machine c.loop-done.done c.feed_slowly-step.result.bytes
+    (record { run = g.R.Run.cells c.args.run.now; source = c.args.source; events = step.fed.0; fault = f })) c.in-Some.is step.fed.2)
 
 pub returns : goal.returns
 returns g c =

@@ -1,18 +1,16 @@
 use Rattle.std.proofs.Common.{ap, subst, sym, ◌∙◌, List}
-use Rattle.source_machine.specs.Names.{Placed, Stream, ItmPacket}
-use Rattle.source_machine.specs.Names.{Itm, stream_as}
+use Rattle.source_machine.specs.Names.{Placed, Stream, Itm}
 use Rattle.source_machine.specs.declared.machine.SourceMachine.{SourceMachine}
 use Rattle.source_machine.specs.declared.machine.SourceMachine.TheVariants.{Itm as ItmMachine, Stp as StpMachine}
 use Rattle.source_machine.specs.Units.{reading_on, reads_on, StandsOn, TakesUnits}
 use Rattle.source_machine.specs.UnitLaws.{shows_units}
-use Rattle.source_machine.proofs.Reading.{stp_order, stp_own}
+use Rattle.source_machine.proofs.Reading.{seen_same, stp_order, stp_own}
 use Rattle.source_machine.proofs.UnitTaking.{itm_takes, stp_takes}
 use Rattle.source_machine.proofs.machine.SourceMachine.feed_units.Goals as goal
 
 pub returns-in-Itm-clause-mode : goal.returns-in-Itm-clause-mode
 returns-in-Itm-clause-mode c =
-    ap (λ (r : List Placed → Stream ItmPacket). λ (u : List Placed). stream_as Itm (r u)) c.feed.ensures.same
-    ∙ ap reading_on (sym c.in-Itm.is)
+    seen_same Itm _ _ c.feed.ensures.same ∙ ap reading_on (sym c.in-Itm.is)
 
 pub returns-in-Stp-clause-mode : goal.returns-in-Stp-clause-mode
 returns-in-Stp-clause-mode c =

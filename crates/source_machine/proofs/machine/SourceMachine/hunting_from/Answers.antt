@@ -1,7 +1,7 @@
-use Rattle.std.proofs.Common.{ap, sym, ◌∙◌, List}
-use Rattle.source_machine.specs.Names.{Placed, Stream, ItmPacket, Itm, stream_as, packets_in}
+use Rattle.std.proofs.Common.{ap, sym, ◌∙◌}
+use Rattle.source_machine.specs.Names.{Itm, packets_in}
 use Rattle.source_machine.specs.Units.{reads_on}
-use Rattle.source_machine.proofs.Reading.{stp_order, stp_mode}
+use Rattle.source_machine.proofs.Reading.{seen_same, stp_order, stp_mode}
 use Rattle.source_machine.proofs.machine.SourceMachine.hunting_from.Goals as goal
 
 pub returns-in-Stp-clause-reads : goal.returns-in-Stp-clause-reads
@@ -13,5 +13,4 @@ returns-in-Stp-clause-mode c = stp_mode _ _ _ c.hunting_from.ensures.mode
 
 pub returns-in-Itm-clause-mode : goal.returns-in-Itm-clause-mode
 returns-in-Itm-clause-mode c =
-    ap (λ (r : List Placed → Stream ItmPacket). λ (u : List Placed). stream_as Itm (r u)) (c.feed.ensures.same
-    ∙ ap packets_in c.hunting-decoder.ensures.mode)
+    seen_same Itm _ _ (c.feed.ensures.same ∙ ap packets_in c.hunting-decoder.ensures.mode)

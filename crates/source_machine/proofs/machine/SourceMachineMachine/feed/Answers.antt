@@ -1,20 +1,18 @@
-use Rattle.std.proofs.Common.{ap, subst, sym, ◌∙◌, List, [], ◌∷◌, ◌++◌}
-use Rattle.source_machine.specs.Names.{Placed, byte_at, Stream, Grows, ItmPacket, packets_in, is_hunter, StpItem, Itm}
-use Rattle.source_machine.specs.Names.{Stp, stream_as}
+use Rattle.std.proofs.Common.{ap, subst, sym, ◌∙◌, [], ◌∷◌, ◌++◌}
+use Rattle.source_machine.specs.Names.{byte_at, Grows, packets_in, is_hunter, Itm, Stp, stream_as}
 use Rattle.source_machine.specs.declared.machine.SourceMachine.{SourceMachine}
 use Rattle.source_machine.specs.Machine.{reading_of, Stands}
 use Rattle.source_machine.specs.SeenLaws.{grows_as}
+use Rattle.source_machine.proofs.Reading.{seen_same}
 use Rattle.source_machine.proofs.machine.SourceMachineMachine.feed.Goals as goal
 
 pub returns-in-Itm-clause-same : goal.returns-in-Itm-clause-same
 returns-in-Itm-clause-same c =
-    ap (λ (r : List Placed → Stream ItmPacket). λ (u : List Placed). stream_as Itm (r u)) c.feed.ensures.same
-    ∙ ap reading_of (sym c.in-Itm.is)
+    seen_same Itm _ _ c.feed.ensures.same ∙ ap reading_of (sym c.in-Itm.is)
 
 pub returns-in-Stp-clause-same : goal.returns-in-Stp-clause-same
 returns-in-Stp-clause-same c =
-    ap (λ (r : List Placed → Stream StpItem). λ (u : List Placed). stream_as Stp (r u)) c.feed-in-Stp.ensures.same
-    ∙ ap reading_of (sym c.in-Stp.is)
+    seen_same Stp _ _ c.feed-in-Stp.ensures.same ∙ ap reading_of (sym c.in-Stp.is)
 
 pub returns-in-Itm-clause-step : goal.returns-in-Itm-clause-step
 returns-in-Itm-clause-step c = λ u s.

@@ -1,36 +1,11 @@
-use Rattle.source_machine.proofs.Reading.{itm_alike, itm_same}
+use Rattle.std.proofs.Common.{refl}
+use Rattle.source_machine.specs.Names.{Itm}
+use Rattle.source_machine.proofs.Reading.{seen_same}
 use Rattle.source_machine.proofs.packets.ItmDecoderFinds.take.Goals as goal
 
-pub returns-in_err-taken-clause-same : goal.returns-in_err-taken-clause-same
-returns-in_err-taken-clause-same c = itm_same c.args.self.now c.take_part.new.self c.take_part.ensures.stays.0
-
-pub returns-in-None-clause-same : goal.returns-in-None-clause-same
-returns-in-None-clause-same c = itm_same c.args.self.now c.take_part.new.self c.take_part.ensures.stays.0
-
-pub returns-in-Some-clause-same : goal.returns-in-Some-clause-same
-returns-in-Some-clause-same c = itm_same c.args.self.now c.take_part.new.self c.take_part.ensures.stays.0
-
-pub returns-in_err-taken-clause-alike : goal.returns-in_err-taken-clause-alike
-returns-in_err-taken-clause-alike c = itm_alike c.args.self.now c.take_part.new.self c.take_part.ensures.stays.0
-
-pub returns-in-None-clause-alike : goal.returns-in-None-clause-alike
-returns-in-None-clause-alike c = itm_alike c.args.self.now c.take_part.new.self c.take_part.ensures.stays.0
-
-pub returns-in-Some-clause-alike : goal.returns-in-Some-clause-alike
-returns-in-Some-clause-alike c = itm_alike c.args.self.now c.take_part.new.self c.take_part.ensures.stays.0
-
 pub returns-then-bytes-gt0-clause-same : goal.returns-then-bytes-gt0-clause-same
-returns-then-bytes-gt0-clause-same c = itm_same c.args.self.now c.skip_part-bytes.new.self
-    c.skip_part-bytes.ensures.stays.0
+returns-then-bytes-gt0-clause-same c = seen_same Itm _ _ c.skip_part-bytes.ensures.stays.0
 
 pub returns-then-bytes-gt0-clause-alike : goal.returns-then-bytes-gt0-clause-alike
-returns-then-bytes-gt0-clause-alike c = itm_alike c.args.self.now c.skip_part-bytes.new.self
-    c.skip_part-bytes.ensures.stays.0
-
-pub returns-else-bytes-gt0-clause-same : goal.returns-else-bytes-gt0-clause-same
-returns-else-bytes-gt0-clause-same c = itm_same c.args.self.now c.skip_part-bytes.new.self
-    c.skip_part-bytes.ensures.stays.0
-
-pub returns-else-bytes-gt0-clause-alike : goal.returns-else-bytes-gt0-clause-alike
-returns-else-bytes-gt0-clause-alike c = itm_alike c.args.self.now c.skip_part-bytes.new.self
-    c.skip_part-bytes.ensures.stays.0
+returns-then-bytes-gt0-clause-alike c =
+    record { kind = refl; any = refl; own = seen_same Itm _ _ c.skip_part-bytes.ensures.stays.0 }

@@ -1,6 +1,6 @@
 use Rattle.std.proofs.Common.{◌≡◌, ℕ, zero, suc, ◌≤◌, List, [], ◌∷◌, ◌++◌, length, take, refl, ◌∙◌, ap, subst, arith, rules}
 use Rattle.std.proofs.lemmas.List.{length-take-le, take_at}
-use Rattle.source_merge.specs.Names.{Placed, placed_from}
+use Rattle.source_merge.specs.Names.{placed_from}
 use Rattle.source_merge.specs.declared.engine.Engine.{Engine}
 use Rattle.source_merge.specs.declared.flow.Fed.{Fed}
 use Rattle.source_merge.specs.Engine.{Stands}

@@ -27,37 +27,35 @@ gathered g c =
           (sym (MatchOption-at_some _ _ _ c.in-Some.is c.place_frame.ensures.at)) (MatchOption-at_some _ _ _ c.in-Some.is c.place_frame.ensures.offsets);
     }
 
-pub returns-in-Some-clause-takes : goal.returns-in-Some-clause-takes
-returns-in-Some-clause-takes g c =
+pub returns-in-Some : goal.returns-in-Some
+returns-in-Some g c =
     let frame = c.in-Some.frame in
     let piece = c.args.piece.now in
+    let bytes = take (16 + 2 * frame.halves) piece in
     let new = c.take_gathered-flow.new.self in
-    let took = c.take_gathered-flow.ensures.takes in
+    let took = c.take_gathered-flow.ensures in
+    let fed = took.fed in
+    let quiet = Answers (plan_of c.args.self.now) [] Going in
+    let last = Answers (plan_of c.args.self.now) fed.0 c.take_gathered-flow.result in
     let size = c.size.ensures in
     let room = MatchOption-at_some _ _ _ c.in-Some.is c.place_frame.ensures.room in
     let at_is = MatchOption-at_some _ _ _ c.in-Some.is c.place_frame.ensures.at in
     record {
-      same = took.same;
-      bytes = (omega (arith, size), omega (arith, size, room));
-      next = let next = took.next in omega (arith, next, size, at_is);
-      live = took.live;
-      list = λ u h.
-          subst (λ (n : ℕ). Stands new (u ++ placed_from c.args.at (take n piece))) (sym size)
-          (subst (λ (at : ℕ). Stands new (u ++ placed_from at (take (16 + 2 * frame.halves) piece))) at_is
-          (took.list u (take (16 + 2 * frame.halves) piece) h (gathered g c)));
+      takes = record {
+        same = took.takes.same;
+        bytes = (omega (arith, size), omega (arith, size, room));
+        next = let next = took.takes.next in omega (arith, next, size, at_is);
+        live = took.takes.live;
+        list = λ u h.
+            subst (λ (n : ℕ). Stands new (u ++ placed_from c.args.at (take n piece))) (sym size)
+            (subst (λ (at : ℕ). Stands new (u ++ placed_from at bytes)) at_is (took.takes.list u bytes h (gathered g c)));
+      };
+      space = took.space;
+      fed = (
+        fed.0,
+        fed.1,
+        λ u h.
+            subst (λ (n : ℕ). FedAs quiet last u c.args.at (take n piece)) (sym size)
+            (subst (λ (at : ℕ). FedAs quiet last u at bytes) at_is (fed.2 u bytes h (gathered g c))),
+      );
     }
-
-pub returns-in-Some-clause-fed : goal.returns-in-Some-clause-fed
-returns-in-Some-clause-fed g c =
-    let frame = c.in-Some.frame in
-    let piece = c.args.piece.now in
-    let plan = plan_of c.args.self.now in
-    let fed = c.take_gathered-flow.ensures.fed in
-    let last = Answers plan fed.0 c.take_gathered-flow.result in (
-      fed.0,
-      fed.1,
-      λ u h.
-          subst (λ (n : ℕ). FedAs (Answers plan [] Going) last u c.args.at (take n piece)) (sym c.size.ensures)
-          (subst (λ (at : ℕ). FedAs (Answers plan [] Going) last u at (take (16 + 2 * frame.halves) piece))
-          (MatchOption-at_some _ _ _ c.in-Some.is c.place_frame.ensures.at) (fed.2 u (take (16 + 2 * frame.halves) piece) h (gathered g c))),
-    )

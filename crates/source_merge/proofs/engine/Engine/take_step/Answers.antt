@@ -89,39 +89,39 @@ module _ (g : bound.Over) (c : goal.After-flow_of g) (u : List Placed) (h : Stan
       c.as_slice.ensures.value c.take_step-stop.ensures.taken.2.1)
       c.flow_of.ensures.fault
 
-pub returns-clause-fed : goal.returns-clause-fed
-returns-clause-fed g c =
+pub returns : goal.returns
+returns g c =
     let t = c.take_step-stop.ensures.taken in
-    (t.0, t.1, λ u h. (the_step g c u h).fed)
-
-pub returns-clause-takes : goal.returns-clause-takes
-returns-clause-takes g c =
     let gone = tested c.take_step-stop.result c.is_none-self.result c.is_none-self.ensures in
     record {
-      same = refl;
-      bytes = c.feed_block-taken.ensures.bytes;
-      next = refl;
-      live = gone ∙ sym c.flow_of.ensures.going;
-      list = λ u h.
-          let self = c.args.self.now in
-          let bytes = take c.feed_block-taken.result.bytes c.args.piece.now in
-          let value = c.as_mut_slice.ensures.value in
-          let took = c.take_step-stop.ensures.slots in
-          let last = the_step g c u h in
-          let more = on g c u h in
-          record {
-            port = c.feed_block-taken.ensures.list u h.port;
-            mode = c.feed_block-taken.ensures.same ∙ h.mode;
-            sources =
-                same_after 30 self.slots.items c.as_mut_slice.result.now c.take_step-stop.new.slots value c.take_step-stop.result took ∙ h.sources;
-            rising = more.rising;
-            next = ap (λ (k : ℕ). c.args.at + k) (sym (size g c u h)) ∙ more.next;
-            count = (let a = more.count in let b = size g c u h in omega arith);
-            live = gone ∙ none_of c.take_step-stop.result ∙ ap is_none (sym last.fault);
-            counted = last.counted;
-            going = λ k.
-                subst (λ (l : List Slot). AllStand l (runs_in (port_of self.plan (u ++ placed_from c.args.at bytes))))
-                (sym (written 30 self.slots.items c.as_mut_slice.result.now c.take_step-stop.new.slots value c.take_step-stop.result took))
-                (last.stand (none_there c.take_step-stop.result (sym gone ∙ k)));
-          };
+      takes = record {
+        same = refl;
+        bytes = c.feed_block-taken.ensures.bytes;
+        next = refl;
+        live = gone ∙ sym c.flow_of.ensures.going;
+        list = λ u h.
+            let self = c.args.self.now in
+            let bytes = take c.feed_block-taken.result.bytes c.args.piece.now in
+            let value = c.as_mut_slice.ensures.value in
+            let took = c.take_step-stop.ensures.slots in
+            let last = the_step g c u h in
+            let more = on g c u h in
+            record {
+              port = c.feed_block-taken.ensures.list u h.port;
+              mode = c.feed_block-taken.ensures.same ∙ h.mode;
+              sources =
+                  same_after 30 self.slots.items c.as_mut_slice.result.now c.take_step-stop.new.slots value c.take_step-stop.result took ∙ h.sources;
+              rising = more.rising;
+              next = ap (λ (k : ℕ). c.args.at + k) (sym (size g c u h)) ∙ more.next;
+              count = (let a = more.count in let b = size g c u h in omega arith);
+              live = gone ∙ none_of c.take_step-stop.result ∙ ap is_none (sym last.fault);
+              counted = last.counted;
+              going = λ k.
+                  subst (λ (l : List Slot). AllStand l (runs_in (port_of self.plan (u ++ placed_from c.args.at bytes))))
+                  (sym (written 30 self.slots.items c.as_mut_slice.result.now c.take_step-stop.new.slots value c.take_step-stop.result took))
+                  (last.stand (none_there c.take_step-stop.result (sym gone ∙ k)));
+            };
+      };
+      space = c.take_step-stop.ensures.space;
+      fed = (t.0, t.1, λ u h. (the_step g c u h).fed);
     }

@@ -30,19 +30,15 @@ add_run-requires-clause-room c =
     omega (arith, t, n, room, l)
 
 pub loop-run-preserved : goal.loop-run-preserved
-loop-run-preserved c =
-    let split = c.args.self.now in
-    let run = run_in c.in-Some.run' in
-    let rest = left_cells split c.loop-run.left in
-    let more = left_cells split c.next_run.new.left in record {
-      left = c.in-Some.ensures.left;
-      counted =
-          counting_more (left_cells split c.args.left.now) c.args.counts.now rest run more
-          (first_run rest run more c.in-Some.ensures.first c.source.ensures.some) c.loop-run.counts c.add_run.new.self
-          c.loop-run.invariant.counted
-          (λ whole runs h. c.add_run.ensures.counted whole runs run c.source.ensures.own (sym c.len.ensures) h)
-          (let l = c.len.ensures in let d = c.add_run.ensures.more in omega (arith, l, d));
-    }
+loop-run-preserved c = record {
+  left = c.in-Some.ensures.left;
+  counted =
+      counting_more (left_cells c.args.self.now c.args.left.now) c.args.counts.now _ _ _
+      (first_run _ _ _ c.in-Some.ensures.first c.source.ensures.some) c.loop-run.counts c.add_run.new.self
+      c.loop-run.invariant.counted
+      (λ whole runs h. c.add_run.ensures.counted whole runs (run_in c.in-Some.run') c.source.ensures.own (sym c.len.ensures) h)
+      (let l = c.len.ensures in let d = c.add_run.ensures.more in omega (arith, l, d));
+}
 
 pub returns : goal.returns
 returns c =

@@ -73,12 +73,9 @@ taken_to : (g : bound.Over) → (c : goal.After-count_left g) → IsTaken g.V.Re
     (c.take_run.new.items, (c.take_run.new.out, c.take_run.new.to)) (Some c.in-Some-take_run.stop)
 taken_to g c =
     let i = c.loop-run.invariant.so_far in
-    let split = c.args.self.now in
     let run = run_in c.in-Some.run' in
-    let rest = left_cells split c.loop-run.left in
-    let more = left_cells split c.next_run.new.left in
-    stopped g.V.Receiver.gets g.V.Receiver.room (split_cells split) c.args.slots.now c.args.counts.now (c.args.items.now, (c.args.out.now, c.args.to.now))
-    rest run more (first_run rest run more c.in-Some.ensures.first c.source-id.ensures.some)
+    stopped g.V.Receiver.gets g.V.Receiver.room (split_cells c.args.self.now) c.args.slots.now c.args.counts.now (c.args.items.now, (c.args.out.now, c.args.to.now))
+    _ run _ (first_run _ run _ c.in-Some.ensures.first c.source-id.ensures.some)
     c.loop-run.slots c.take_run.new.slots c.loop-run.counts c.add_run.new.self
     (c.loop-run.items, (c.loop-run.out, c.loop-run.to)) (c.take_run.new.items, (c.take_run.new.out, c.take_run.new.to)) i
     c.take_run.result c.take_run.ensures.slots c.take_run.ensures.took g.met.V.Receiver.adds_up.more c.in-Some-take_run.stop c.in-Some-take_run.is (2 ^ 58)
@@ -89,23 +86,18 @@ pub returns-in-Some-take_run : goal.returns-in-Some-take_run
 returns-in-Some-take_run g c = let k = taken_to g c in record { slots = k.slots_are; fed = k.fed; counts = k.counts_are }
 
 pub loop-run-preserved : goal.loop-run-preserved
-loop-run-preserved g c =
-    let i = c.loop-run.invariant.so_far in
-    let split = c.args.self.now in
-    let run = run_in c.in-Some.run' in
-    let rest = left_cells split c.loop-run.left in
-    let more = left_cells split c.next_run.new.left in record {
-      left = c.in-Some.ensures.left;
-      so_far =
-          one_more g.V.Receiver.gets g.V.Receiver.room (split_cells split) c.args.slots.now c.args.counts.now
-          (c.args.items.now, (c.args.out.now, c.args.to.now)) rest run more
-          (first_run rest run more c.in-Some.ensures.first c.source-id.ensures.some) c.loop-run.slots
-          c.take_run.new.slots c.loop-run.counts c.add_run.new.self (c.loop-run.items, (c.loop-run.out, c.loop-run.to))
-          (c.take_run.new.items, (c.take_run.new.out, c.take_run.new.to)) i c.take_run.result c.take_run.ensures.slots
-          c.take_run.ensures.took g.met.V.Receiver.adds_up.more c.in_default-take_run.is
-          (λ whole runs h. c.add_run.ensures.counted whole runs run c.source-id.ensures.own (sym c.len.ensures) h)
-          (let l = c.len.ensures in let d = c.add_run.ensures.more in omega (arith, l, d));
-    }
+loop-run-preserved g c = record {
+  left = c.in-Some.ensures.left;
+  so_far =
+      one_more g.V.Receiver.gets g.V.Receiver.room (split_cells c.args.self.now) c.args.slots.now c.args.counts.now
+      (c.args.items.now, (c.args.out.now, c.args.to.now)) _ _ _
+      (first_run _ _ _ c.in-Some.ensures.first c.source-id.ensures.some) c.loop-run.slots
+      c.take_run.new.slots c.loop-run.counts c.add_run.new.self (c.loop-run.items, (c.loop-run.out, c.loop-run.to))
+      (c.take_run.new.items, (c.take_run.new.out, c.take_run.new.to)) c.loop-run.invariant.so_far c.take_run.result
+      c.take_run.ensures.slots c.take_run.ensures.took g.met.V.Receiver.adds_up.more c.in_default-take_run.is
+      (λ whole runs h. c.add_run.ensures.counted whole runs (run_in c.in-Some.run') c.source-id.ensures.own (sym c.len.ensures) h)
+      (let l = c.len.ensures in let d = c.add_run.ensures.more in omega (arith, l, d));
+}
 
 -- all are taken
 taken_all : (g : bound.Over) → (c : goal.In_default g) → IsTaken g.V.Receiver.gets g.V.Receiver.room (split_cells c.args.self.now) c.args.slots.now
