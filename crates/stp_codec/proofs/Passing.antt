@@ -96,7 +96,7 @@ module _ (order : Order) (m : Mode) (live : Bool) (s : Partial) (a : Attribution
       subst (λ r. IsQuiet (items_at order (hunts m) n) (items_at order (hunts m) (n ++ r))) high_is (g.given ∙ append-nil (items_at order (hunts m) n).given, g.fault)
 
   null_kept : (v : StpPacket) → v ≡ Plain Null 0 → (ps : List StpPacket) → Attributes a ps → Attributes a (ps ++ v ∷ [])
-  null_kept v e ps k = subst (λ p. Attributes a (ps ++ p ∷ [])) (sym e) (stands_with a a ps (Plain Null 0) (omega arith) k refl refl refl refl)
+  null_kept v e ps k = subst (λ p. Attributes a (ps ++ p ∷ [])) (sym e) (stands_with a a ps (Plain Null 0) (omega arith) k (record { version = refl; master = refl; channel = refl; last = refl }))
 
   null_silent : (v : StpPacket) → v ≡ Plain Null 0 → (ps : List StpPacket) → Attributes a ps → None ≡ item_of (ps ++ v ∷ []) v
   null_silent v e ps k = sym (ap (λ p. item_of (ps ++ p ∷ []) p) e)

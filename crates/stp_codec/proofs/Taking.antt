@@ -16,7 +16,7 @@ use Rattle.stp_grammar.proofs.Attributing.{stands_with}
 use Rattle.stp_codec.specs.Reading.{pattern, packets_in, packets_of, items_at}
 
 pub async_kept : (a : Attribution) (ps : List StpPacket) → Attributes a ps → Attributes a (ps ++ Async ∷ [])
-async_kept a ps k = stands_with a a ps Async tt k refl refl refl refl
+async_kept a ps k = stands_with a a ps Async tt k (record { version = refl; master = refl; channel = refl; last = refl })
 
 module _ (order : Order) where
   abbrev pub Reads : Mode → Bool → Partial → List Placed → Type 0
