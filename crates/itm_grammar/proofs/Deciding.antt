@@ -23,7 +23,7 @@ use Rattle.itm_grammar.specs.Spelling.{Spells, SpellsSource, why, reason_of, byt
 use Rattle.itm_grammar.specs.Rule.{rule, begin, zeros_with, last, another_follows, most_bytes, source, first_stamp, second_stamp, count_of}
 use Rattle.itm_grammar.proofs.Counting.{counts}
 use Rattle.itm_grammar.proofs.Headers.{chosen, header_of, header_is, made}
-use Rattle.itm_grammar.proofs.Payloads.{from, says, value_from, last_of, added, payload_cases, payload_sound, payload_complete, last_ends, fills_count, count_fills, longer, fills_continued, continued_fills, value_number, value_groups, extension_filled, extension_fills, value_extended}
+use Rattle.itm_grammar.proofs.Payloads.{from, says, value_from, last_of, added, payload_cases, payload_sound, payload_complete, Fills, last_ends, fills_count, count_fills, longer, fills_continued, continued_fills, value_number, value_groups, extension_filled, extension_fills, value_extended}
 
 stop_whole : (v w : ItmPacket) (k : Partial → Walked Partial ItmPacket) (p : List ℕ) → after (End v) k p ≡ Whole w → (w ≡ v) × (p ≡ [])
 stop_whole v w k [] e = (cc, refl)
@@ -147,62 +147,46 @@ source_sound h hardware n size p v k e =
 groups_whole : (p : List ℕ) → value_from (λ i b. b % 128 * 128 ^ i) 0 0 p ≡ groups p
 groups_whole p = let w = value_groups 0 0 p in omega arith
 
+-- such a payload ends with its last byte, and what ends with it is said of its groups
+stamped_whole : (most : ℕ) (p : List ℕ) (v : ItmPacket) (says : ℕ → ℕ → Next Partial ItmPacket) → 0 < most → Fills (λ i b. longer most i b) 0 p →
+    cond (nat_lt (last_of p) 128) (says (0 + length p) (value_from (λ i b. b % 128 * 128 ^ i) 0 0 p)) (Fail LongStamp) ≡ End v →
+    IsContinued p × (length p ≤ most) × (says (length p) (groups p) ≡ End v)
+stamped_whole most p v says h f e = elim (chosen (nat_lt (last_of p) 128) e) [
+  | inl m ↦
+      let t = fills_continued most 0 p h f (under_128 (last_of p) m.0) in
+      let z : length p ≡ 0 + length p = omega arith in
+      (t.0, (let l = t.1 in omega arith), ap (says (length p)) (sym (groups_whole p)) ∙ ap (λ (n : ℕ). says n (value_from (λ i b. b % 128 * 128 ^ i) 0 0 p)) z ∙ m.1)
+  | inr m ↦ (let s = m.1 in cc)
+]
+
 local_sound : (h : ℕ) (lateness : Lateness) (p : List ℕ) (v : ItmPacket) → class_of h ≡ LocalLong lateness → from (Payload (LocalLong lateness) 0 0) p ≡ Whole v → Spells v (h ∷ p)
 local_sound h lateness p v k e =
-    let c = LocalLong lateness in
-    let f = payload_sound c 0 0 p v e in
-    let a = header_is h c k (λ e. cc) in
-    elim (chosen (nat_lt (last_of p) 128) f.ends) [
-      | inl m ↦
-          let t = fills_continued 4 0 p (omega arith) f.fills (under_128 (last_of p) m.0) in
-          let w = groups_whole p in
-          let s = m.1 in
-          let q : v ≡ Local lateness (value_from (λ i b. b % 128 * 128 ^ i) 0 0 p) = cc in
-          subst (λ (x : ItmPacket). Spells x (h ∷ p)) (sym q) (inr (p, ap (λ (i : ℕ). i ∷ p) a.0, t.0, (let l = t.1 in omega arith), w))
-      | inr m ↦ (let s = m.1 in cc)
-    ]
+    let f = payload_sound (LocalLong lateness) 0 0 p v e in
+    let m = stamped_whole 4 p v (λ _ n. End (Local lateness n)) (omega arith) f.fills f.ends in
+    subst (λ (x : ItmPacket). Spells x (h ∷ p)) (sym (stopped _ v m.2))
+    (inr (p, ap (λ (i : ℕ). i ∷ p) (header_is h (LocalLong lateness) k (λ e. cc)).0, m.0, m.1, refl))
 
 first_sound : (h : ℕ) (p : List ℕ) (v : ItmPacket) → class_of h ≡ First → from (Payload First 0 0) p ≡ Whole v → Spells v (h ∷ p)
 first_sound h p v k e =
     let f = payload_sound First 0 0 p v e in
-    let a = header_is h First k (λ e. cc) in
-    elim (chosen (nat_lt (last_of p) 128) f.ends) [
-      | inl m ↦
-          let t = fills_continued 4 0 p (omega arith) f.fills (under_128 (last_of p) m.0) in
-          let w = groups_whole p in
-          let l : length p ≤ 4 = (let l = t.1 in omega arith) in
-          let z : 0 + length p ≡ length p = omega arith in
-          let s = m.1 in
-          let q : v ≡ first_stamp (0 + length p) (value_from (λ i b. b % 128 * 128 ^ i) 0 0 p) = stopped _ v s in
-          let r : v ≡ first_stamp (length p) (groups p) = q ∙ ap (λ (n : ℕ). first_stamp n (value_from (λ i b. b % 128 * 128 ^ i) 0 0 p)) z ∙ ap (first_stamp (length p)) w in
-          let d = parts (groups p) (fits_within p 4 l) in
-          subst (λ (x : ItmPacket). Spells x (h ∷ p)) (sym r) (p, ap (λ (i : ℕ). i ∷ p) a.0, t.0, refl, l, d.0, d.1)
-      | inr m ↦ (let s = m.1 in cc)
-    ]
+    let m = stamped_whole 4 p v (λ i n. End (first_stamp i n)) (omega arith) f.fills f.ends in
+    let d = parts (groups p) (fits_within p 4 m.1) in
+    subst (λ (x : ItmPacket). Spells x (h ∷ p)) (sym (stopped _ v m.2))
+    (p, ap (λ (i : ℕ). i ∷ p) (header_is h First k (λ e. cc)).0, m.0, refl, m.1, d.0, d.1)
 
 second_sound : (h : ℕ) (p : List ℕ) (v : ItmPacket) → class_of h ≡ Second → from (Payload Second 0 0) p ≡ Whole v → Spells v (h ∷ p)
 second_sound h p v k e =
     let f = payload_sound Second 0 0 p v e in
+    let m = stamped_whole 6 p v second_stamp (omega arith) f.fills f.ends in
     let a = header_is h Second k (λ e. cc) in
-    elim (chosen (nat_lt (last_of p) 128) f.ends) [
-      | inl m ↦
-          let t = fills_continued 6 0 p (omega arith) f.fills (under_128 (last_of p) m.0) in
-          let w = groups_whole p in
-          let z : 0 + length p ≡ length p = omega arith in
-          let s : second_stamp (length p) (groups p) ≡ End v =
-          ap (second_stamp (length p)) (sym w) ∙ ap (λ (n : ℕ). second_stamp n (value_from (λ i b. b % 128 * 128 ^ i) 0 0 p)) (sym z) ∙ m.1 in
-          elim (chosen (length p == 4) s) [
-            | inl o ↦
-                let q : v ≡ GlobalSecond false (groups p % 2 ^ 22) = stopped _ v o.1 in
-                subst (λ (x : ItmPacket). Spells x (h ∷ p)) (sym q) (p, ap (λ (i : ℕ). i ∷ p) a.0, t.0, eqb-true (length p) 4 o.0, refl)
-            | inr o ↦ elim (chosen (length p == 6) o.1) [
-              | inl u ↦
-                  let q : v ≡ GlobalSecond true (groups p % 2 ^ 38) = stopped _ v u.1 in
-                  subst (λ (x : ItmPacket). Spells x (h ∷ p)) (sym q) (p, ap (λ (i : ℕ). i ∷ p) a.0, t.0, eqb-true (length p) 6 u.0, refl)
-              | inr u ↦ (let s = u.1 in cc)
-            ]
-          ]
-      | inr m ↦ (let s = m.1 in cc)
+    elim (chosen (length p == 4) m.2) [
+      | inl o ↦
+          subst (λ (x : ItmPacket). Spells x (h ∷ p)) (sym (stopped _ v o.1)) (p, ap (λ (i : ℕ). i ∷ p) a.0, m.0, eqb-true (length p) 4 o.0, refl)
+      | inr o ↦ elim (chosen (length p == 6) o.1) [
+        | inl u ↦
+            subst (λ (x : ItmPacket). Spells x (h ∷ p)) (sym (stopped _ v u.1)) (p, ap (λ (i : ℕ). i ∷ p) a.0, m.0, eqb-true (length p) 6 u.0, refl)
+        | inr u ↦ (let s = u.1 in cc)
+      ]
     ]
 
 extension_sound : (h : ℕ) (dwt : Bool) (low : ℕ) (p : List ℕ) (v : ItmPacket) → class_of h ≡ Extended true dwt low → from (Payload (Extended true dwt low) 0 0) p ≡ Whole v → Spells v (h ∷ p)
