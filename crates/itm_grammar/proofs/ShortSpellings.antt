@@ -222,25 +222,19 @@ first_least (suc n) value change wrap h =
       least = λ r s. (let l = m.len in let e = ap length s.1 in let d = s.3 in omega arith);
     }
 
+second_with : (wide : Bool) (n value : ℕ) → suc n ≡ cond wide 6 4 → value < 128 ^ suc n → value ≡ value % 2 ^ cond wide 38 22 → Least (GlobalSecond wide value) (0xB4 ∷ groups_of (suc n) value) (2 + n)
+second_with wide n value e h k =
+    let m = groups_made n value h in
+    record {
+      spells = (groups_of (suc n) value, refl, m.continued, m.len ∙ e, k ∙ ap (λ g. g % 2 ^ cond wide 38 22) (sym m.value_is));
+      bytes = (omega arith, m.bytes);
+      len = (let l = m.len in omega arith);
+      least = λ r s. (let l = m.len in let i = ap length s.1 in let d = s.3 ∙ sym e in omega arith);
+    }
+
 second_least : (wide : Bool) (value : ℕ) → IsProper (GlobalSecond wide value) → Least (GlobalSecond wide value) (short (GlobalSecond wide value)) (cond wide 7 5)
-second_least true value h =
-    let m = groups_made 5 value (omega arith) in
-    let v = m.value_is in
-    record {
-      spells = (groups_of 6 value, refl, m.continued, m.len, rw v (omega arith));
-      bytes = (omega arith, m.bytes);
-      len = (let l = m.len in omega arith);
-      least = λ r s. (let l = m.len in let e = ap length s.1 in let d = s.3 in omega arith);
-    }
-second_least false value h =
-    let m = groups_made 3 value (omega arith) in
-    let v = m.value_is in
-    record {
-      spells = (groups_of 4 value, refl, m.continued, m.len, rw v (omega arith));
-      bytes = (omega arith, m.bytes);
-      len = (let l = m.len in omega arith);
-      least = λ r s. (let l = m.len in let e = ap length s.1 in let d = s.3 in omega arith);
-    }
+second_least true value h = second_with true 5 value refl (omega arith) (omega arith)
+second_least false value h = second_with false 3 value refl (omega arith) (omega arith)
 
 -- an extension packet
 record Extra (high : ℕ) (p : List ℕ) : Type 0 where
