@@ -111,16 +111,9 @@ module _ (order : Order) (m : Mode) (live : Bool) (s : Partial) (a : Attribution
       let g = stops_step order m live s a n high l locked v None (by_rule (End v) e) (null_silent v (start_ends order v (byte / 16) e)) h in
       subst (λ r. IsQuiet (items_at order (hunts m) n) (items_at order (hunts m) (n ++ r))) high_is (g.given ∙ append-nil (items_at order (hunts m) n).given, g.fault)
 
-  pub left_list : (t : Partial) → Leaves (rule order Start (byte / 16)) t → At order m live t a after_high
-  left_list t k = by (rule order Start (byte / 16)) refl k where
-    by : (x : Next Partial StpPacket) → rule order Start (byte / 16) ≡ x → Leaves x t → At order m live t a after_high
-    by (Go r) e k = left_goes_list t (ap Go (sym k) ∙ sym e)
-    by (End v) e k = subst (λ z. At order m live z a after_high) (start ∙ sym k) (ends_list v (sym e))
-    by (Fail r) e k = absurd k
-
-  pub left_quiet : (t : Partial) → Leaves (rule order Start (byte / 16)) t → IsQuiet (items_at order (hunts m) n) (items_at order (hunts m) after_high)
-  left_quiet t k = by (rule order Start (byte / 16)) refl k where
-    by : (x : Next Partial StpPacket) → rule order Start (byte / 16) ≡ x → Leaves x t → IsQuiet (items_at order (hunts m) n) (items_at order (hunts m) after_high)
-    by (Go r) e k = left_goes_quiet t (ap Go (sym k) ∙ sym e)
-    by (End v) e k = ends_quiet v (sym e)
+  pub left_passed : (t : Partial) → Leaves (rule order Start (byte / 16)) t → At order m live t a after_high × IsQuiet (items_at order (hunts m) n) (items_at order (hunts m) after_high)
+  left_passed t k = by (rule order Start (byte / 16)) refl k where
+    by : (x : Next Partial StpPacket) → rule order Start (byte / 16) ≡ x → Leaves x t → At order m live t a after_high × IsQuiet (items_at order (hunts m) n) (items_at order (hunts m) after_high)
+    by (Go r) e k = let f = ap Go (sym k) ∙ sym e in (left_goes_list t f, left_goes_quiet t f)
+    by (End v) e k = (subst (λ z. At order m live z a after_high) (start ∙ sym k) (ends_list v (sym e)), ends_quiet v (sym e))
     by (Fail r) e k = absurd k

@@ -152,10 +152,10 @@ module _ (d e : StpDecoder) (ahead : List ℕ) (c : Copies d e ahead) where
       ∙ ap (λ (f : ℕ). reached d.order (begun d.order f d.partial) (nibbles_in (waiting_in e))) c.first
       ∙ ap (λ (l : List ℕ). reached d.order (begun_of d) (nibbles_in l)) c.bytes
 
-  pub copies_same : (order_of e ≡ order_of d) × (is_hunter e ≡ is_hunter d)
+  copies_same : (order_of e ≡ order_of d) × (is_hunter e ≡ is_hunter d)
   copies_same = (c.order, ap (λ (m : Mode). hunts m) c.mode)
 
-  pub copies_idle : Idles d e
+  copies_idle : Idles d e
   copies_idle = (
     λ u h. stands_as d e (partial_of d) (partial_of e) c.order c.mode c.live c.attribution copies_partial (nibbles_of u) h,
     ap (λ (p : Partial). count_of p) copies_partial,
@@ -193,10 +193,14 @@ module _ (d e f : StpDecoder) (same : (order_of e ≡ order_of d) × (is_hunter 
   idle_parts ahead count None t = tt
   idle_parts ahead count (Some taken) t = idle_part ahead count taken t
 
-  pub idle_finds : (ahead : List ℕ) (count : ℕ) (found : Found PacketParts) → Finds e f ahead count found → Finds d f ahead count found
+  idle_finds : (ahead : List ℕ) (count : ℕ) (found : Found PacketParts) → Finds e f ahead count found → Finds d f ahead count found
   idle_finds ahead count (EndsIn parts) h = (h.0, h.1, h.2, idle_idle h.3)
   idle_finds ahead count Waits h = idle_part ahead count (record { bytes = count; half = 1; item = None }) h
   idle_finds ahead count Unknown h = idle_idle h
+
+-- and after bytes were copied
+pub copies_finds : (d e f : StpDecoder) (ahead : List ℕ) (count : ℕ) (found : Found PacketParts) → Copies d e ahead → Finds e f ahead count found → Finds d f ahead count found
+copies_finds d e f ahead count found c h = idle_finds d e f (copies_same d e ahead c) (copies_idle d e ahead c) ahead count found h
 
 -- a packet was found, and nothing was taken
 pub finds_packet : (d : StpDecoder) (ahead : List ℕ) (count : ℕ) (x : PacketParts) → x.number < 35 → x.nibbles ≤ 2 * count → Finishes d ahead x.nibbles (packet_of x) → Finds d d ahead count (EndsIn x)
