@@ -40,33 +40,30 @@ module _ (order : Order) where
 
     -- in a hunt
     module _ (run skipped : ℕ) (e : m ≡ Hunting run skipped) where
-      pub locks_step : (b.unit == 0 && run == 21) ≡ true → At m live partial a u →
-          Grows (items_at order was u) (items_at order was (u ++ b ∷ [])) b.place.at (StepLocked (skipped - 21) b.place.half AsyncItem)
-      locks_step f s =
-          decorating.grows attribute [] (packets_in order was u) (packets_in order was (u ++ b ∷ [])) b.place.at (StepLocked (skipped - 21) b.place.half Async) (AsyncItem, refl)
-          (laws.locks-step pattern Async (by_unit (rule order)) Start m run skipped b live partial u e f s.0)
-
-      pub locks_list : (b.unit == 0 && run == 21) ≡ true → At m live partial a u → At (Locked (skipped - 21)) live Start a (u ++ b ∷ [])
-      locks_list f s =
+      pub locks : (b.unit == 0 && run == 21) ≡ true → At m live partial a u →
+          At (Locked (skipped - 21)) live Start a (u ++ b ∷ []) × Grows (items_at order was u) (items_at order was (u ++ b ∷ [])) b.place.at (StepLocked (skipped - 21) b.place.half AsyncItem)
+      locks f s =
           let g = laws.locks-step pattern Async (by_unit (rule order)) Start m run skipped b live partial u e f s.0 in
           let h : hunts m ≡ true = ap hunts e in
           let t : Reads (Hunting run skipped) live partial u = subst (λ (x : Mode). Reads x live partial u) e s.0 in (
-            subst (λ (p : Partial). Reads (Locked (skipped - 21)) live p (u ++ b ∷ [])) t.2 (laws.locks-list pattern Async (by_unit (rule order)) Start m run skipped b live partial u e f s.0),
-            subst (λ (x : Bool). Attributes a (packets_of order x (u ++ b ∷ []))) h
-                (subst (Attributes a) (sym (packets_with was u b (StepLocked (skipped - 21) b.place.half Async) g)) (async_kept a (packets_of order was u) s.1)),
+            (
+              subst (λ (p : Partial). Reads (Locked (skipped - 21)) live p (u ++ b ∷ [])) t.2 (laws.locks-list pattern Async (by_unit (rule order)) Start m run skipped b live partial u e f s.0),
+              subst (λ (x : Bool). Attributes a (packets_of order x (u ++ b ∷ []))) h
+                  (subst (Attributes a) (sym (packets_with was u b (StepLocked (skipped - 21) b.place.half Async) g)) (async_kept a (packets_of order was u) s.1)),
+            ),
+            decorating.grows attribute [] (packets_in order was u) (packets_in order was (u ++ b ∷ [])) b.place.at (StepLocked (skipped - 21) b.place.half Async) (AsyncItem, refl) g,
           )
 
-      pub skips_step : (b.unit == 0 && run == 21) ≡ false → At m live partial a u → Grows (items_at order was u) (items_at order was (u ++ b ∷ [])) b.place.at Skipping
-      skips_step f s =
-          decorating.grows attribute [] (packets_in order was u) (packets_in order was (u ++ b ∷ [])) b.place.at Skipping tt
-          (laws.skips-step pattern Async (by_unit (rule order)) Start m run skipped b live partial u e f s.0)
-
-      pub skips_list : (run' : ℕ) → run' ≡ run_after pattern run b.unit → (b.unit == 0 && run == 21) ≡ false → At m live partial a u → At (Hunting run' (skipped + 1)) live partial a (u ++ b ∷ [])
-      skips_list run' r f s =
+      pub skips : (run' : ℕ) → run' ≡ run_after pattern run b.unit → (b.unit == 0 && run == 21) ≡ false → At m live partial a u →
+          At (Hunting run' (skipped + 1)) live partial a (u ++ b ∷ []) × Grows (items_at order was u) (items_at order was (u ++ b ∷ [])) b.place.at Skipping
+      skips run' r f s =
           let g = laws.skips-step pattern Async (by_unit (rule order)) Start m run skipped b live partial u e f s.0 in
           let h : hunts m ≡ true = ap hunts e in (
-            subst (λ (n : ℕ). Reads (Hunting n (skipped + 1)) live partial (u ++ b ∷ [])) (sym r) (laws.skips-list pattern Async (by_unit (rule order)) Start m run skipped b live partial u e f s.0),
-            subst (λ (x : Bool). Attributes a (packets_of order x (u ++ b ∷ []))) h (same_packets was u b Skipping a g refl s.1),
+            (
+              subst (λ (n : ℕ). Reads (Hunting n (skipped + 1)) live partial (u ++ b ∷ [])) (sym r) (laws.skips-list pattern Async (by_unit (rule order)) Start m run skipped b live partial u e f s.0),
+              subst (λ (x : Bool). Attributes a (packets_of order x (u ++ b ∷ []))) h (same_packets was u b Skipping a g refl s.1),
+            ),
+            decorating.grows attribute [] (packets_in order was u) (packets_in order was (u ++ b ∷ [])) b.place.at Skipping tt g,
           )
 
     -- in a reading
