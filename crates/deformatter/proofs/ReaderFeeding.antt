@@ -75,14 +75,7 @@ pub framed_grows : (a b : PortStream) (at : ℕ) (step : PortStep) (cells : List
     Grows (framed a) (framed b) at step cells
 framed_grows a b at step cells g given =
     let k = gained a b at cells given step g.items in
-    record {
-      frames = k.frames;
-      fit = k.fit;
-      fulls = g.fulls;
-      halves = g.halves;
-      fault = g.fault;
-      hunt = g.hunt;
-    }
+    record { frames = k.frames; fit = k.fit; fulls = g.fulls; halves = g.halves; fault = g.fault; hunt = g.hunt }
 
 -- a mode with a formatter
 pub has_formatter : (mode : FramesMode) → (mode ≡ Hunt) ⊎ (mode ≡ Aligned) → is_bare mode ≡ false
