@@ -1,13 +1,13 @@
 -- Nibbles that end a packet, in what a decoder keeps and in what it reads.
 use Rattle.std.proofs.Common.{◌≡◌, ℕ, ◌/◌, ◌%◌, ◌<◌, List, [], ◌∷◌, ◌++◌, refl, sym, ◌∙◌, ap, subst, append_assoc}
 use Rattle.std.proofs.Common.{append-nil, arith, Option, None, Some, Bool, true}
-use Rattle.std.specs.Prelude.{is_none}
 use Rattle.stp_codec.specs.Names.{Next, Go, End, Fail, Mode, Placed, units_of, Walked, Whole, Within, after, walk}
 use Rattle.stp_codec.specs.Names.{by_unit, Stream, Grows, given_by, hunts, is_locked, Order, StpPacket, Async, Plain}
 use Rattle.stp_codec.specs.Names.{StpItem, Attribution, Partial, Start, rule, count_of, item_of, Stands as Attributes}
 use Rattle.stp_codec.specs.Names.{Null, high_of}
 use Rattle.trace_values.proofs.Decorating.{item_step}
 use Rattle.trace_values.proofs.Modes as modes
+use Rattle.trace_values.proofs.Standings.{none_of}
 use Rattle.stp_grammar.proofs.Counting.{counts_placed}
 use Rattle.stp_grammar.proofs.Attributing.{stands_with}
 use Rattle.stp_grammar.proofs.Beginning.{start_ends}
@@ -15,15 +15,11 @@ use Rattle.stp_codec.specs.Wholes.{left_of, IsQuiet, Leaves}
 use Rattle.stp_codec.specs.Reading.{pattern, items_at}
 use Rattle.stp_codec.proofs.Taking.{At, goes_list, goes_step, stops_list, stops_step}
 
-none_is : {A : Type 0} → (o : Option A) → true ≡ is_none o → o ≡ None
-none_is None e = refl
-none_is (Some a) e = cc
-
 -- a live decoder's list has no fault
 pub sound_at : (order : Order) (m : Mode) (live : Bool) (s : Partial) (a : Attribution) (n : List Placed) → live ≡ true → At order m live s a n → (items_at order (hunts m) n).fault ≡ None
 sound_at order m live s a n l h =
     let k = modes.shows pattern Async (by_unit (rule order)) Start count_of refl (counts_placed order) m live s n h.0 in
-    none_is _ (sym l ∙ k.live_is)
+    none_of _ (sym l ∙ k.live_is)
 
 module _ (order : Order) (m : Mode) (a : Attribution) (locked : is_locked m ≡ true) (v : StpPacket) (o : Option StpItem) (b : Attribution)
     (keeps : (ps : List StpPacket) → Attributes a ps → Attributes b (ps ++ v ∷ [])) (is : (ps : List StpPacket) → Attributes a ps → o ≡ item_of (ps ++ v ∷ []) v) where

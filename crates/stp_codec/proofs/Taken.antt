@@ -6,13 +6,10 @@ use Rattle.std.proofs.lemmas.Bool.Decides.{nat_tests}
 use Rattle.std.proofs.lemmas.List.{take_all, length-take-le}
 use Rattle.stp_codec.specs.Names.{item_at, StpItem, Go, End, Fail, Next, Mode, Placed, units_of, nibbles_of, hunts}
 use Rattle.stp_codec.specs.Names.{is_locked, skipped_of, Order, Msn, StpPacket, Attribution, Partial, Start, IsProper}
-use Rattle.stp_codec.specs.Names.{rule, count_of, by_unit, Async, Passes}
+use Rattle.stp_codec.specs.Names.{rule, count_of, Passes}
 use Rattle.stp_grammar.proofs.Beginning.{start_never_fails}
 use Rattle.stp_grammar.proofs.Counting.{counts}
-use Rattle.stp_codec.specs.Reading.{items_in, items_at, pattern}
-use Rattle.trace_values.proofs.Modes as modes
-use Rattle.trace_values.proofs.Standings.{none_of}
-use Rattle.stp_grammar.proofs.Counting.{counts_placed}
+use Rattle.stp_codec.specs.Reading.{items_in}
 use Rattle.stp_codec.specs.Wholes.{nibbles_in, reached, Fronts, left_after, left_by, begun, Leaves, between}
 use Rattle.stp_codec.specs.Wholes.{Ends}
 use Rattle.stp_codec.specs.declared.flat.TheConstants.{WINDOW}
@@ -135,13 +132,6 @@ module _ (d e : StpDecoder) (s : Settles d e) where
 
   pub settles_idle : Idles d e
   settles_idle = (λ u h. to_stands e s.none (nibbles_of u) (settles_reads u h), held_read e s.none ∙ settles_read, settles_skipped)
-
--- where it is live the reading has no fault
-pub sound_at : (d : StpDecoder) (n : List Placed) → is_live d ≡ true → StandsWith d (partial_of d) n →
-    (items_at d.order (hunts d.mode) n).fault ≡ None
-sound_at d n l h = none_of (items_at d.order (hunts d.mode) n).fault (sym l
-    ∙ (modes.shows pattern Async (by_unit (rule d.order)) Start count_of refl (counts_placed d.order) d.mode d.live
-    (partial_of d) n h.0).live_is)
 
 -- bytes that were copied
 module _ (d e : StpDecoder) (ahead : List ℕ) (c : Copies d e ahead) where

@@ -1,8 +1,7 @@
 use Rattle.std.proofs.Common.{arith, take}
 use Rattle.stp_codec.specs.Parts.{packet_of}
 use Rattle.stp_codec.specs.Wholes.{nibbles_in}
-use Rattle.stp_codec.proofs.Taken.{fresh_finishes, fresh_fronts, copies_ready, copies_fronts, copies_finds}
-use Rattle.stp_codec.proofs.Taken.{finds_packet}
+use Rattle.stp_codec.proofs.Taken.{fresh_finishes, fresh_fronts, copies_ready, copies_fronts, copies_finds, finds_packet}
 use Rattle.stp_codec.proofs.decoder.StpDecoder.find_fresh.Goals as goal
 
 pub returns-then-parts-count-clause-found : goal.returns-then-parts-count-clause-found
