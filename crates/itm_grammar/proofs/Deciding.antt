@@ -114,13 +114,13 @@ fits_within (b ∷ p) (suc n) h =
     let e : 128 ^ suc n ≡ 128 ^ n * 128 = pow-suc 128 n in
     rw e (omega arith)
 
-under_128 : (n : ℕ) → nat_lt n 128 ≡ true → n < 128
-under_128 n e = grind (arith, nat_tests)
+pub below : (n most : ℕ) → nat_lt n most ≡ true → n < most
+below n most e = grind (arith, nat_tests)
 
-under_8 : (n : ℕ) → nat_lt n 8 ≡ true → n < 8
-under_8 n e = grind (arith, nat_tests)
+is_below : (n most : ℕ) → n < most → nat_lt n most ≡ true
+is_below n most h = grind (arith, nat_tests)
 
-between : (n : ℕ) → (nat_lt 0 n && nat_lt n 7) ≡ true → (0 < n) × (n < 7)
+pub between : (n : ℕ) → (nat_lt 0 n && nat_lt n 7) ≡ true → (0 < n) × (n < 7)
 between n e = grind (arith, nat_tests)
 
 stopped : (x v : ItmPacket) → (let s : Next Partial ItmPacket = End x in s ≡ End v) → v ≡ x
@@ -138,10 +138,7 @@ source_sound h hardware n size p v k e =
     let w' : value_from (λ i b. b * 256 ^ i) 0 0 p ≡ number p = omega arith in
     let s : (let x : Next Partial ItmPacket = End (source hardware n size (value_from (λ i b. b * 256 ^ i) 0 0 p)) in x ≡ End v) = f.ends in
     let q : source hardware n size (value_from (λ i b. b * 256 ^ i) 0 0 p) ≡ v = cc in
-    ((p, under n a.1, ap (λ (i : ℕ). i ∷ p) a.0, omega arith, refl), sym q ∙ ap (source hardware n size) w')
-  where
-    under : (n : ℕ) → nat_lt n 32 ≡ true → n < 32
-    under n e = grind (arith, nat_tests)
+    ((p, below n 32 a.1, ap (λ (i : ℕ). i ∷ p) a.0, omega arith, refl), sym q ∙ ap (source hardware n size) w')
 
 -- the number of a payload of seven bits a byte
 groups_whole : (p : List ℕ) → value_from (λ i b. b % 128 * 128 ^ i) 0 0 p ≡ groups p
@@ -153,7 +150,7 @@ stamped_whole : (most : ℕ) (p : List ℕ) (v : ItmPacket) (says : ℕ → ℕ 
     IsContinued p × (length p ≤ most) × (says (length p) (groups p) ≡ End v)
 stamped_whole most p v says h f e = elim (chosen (nat_lt (last_of p) 128) e) [
   | inl m ↦
-      let t = fills_continued most 0 p h f (under_128 (last_of p) m.0) in
+      let t = fills_continued most 0 p h f (below (last_of p) 128 m.0) in
       let z : length p ≡ 0 + length p = omega arith in
       (t.0, (let l = t.1 in omega arith), ap (says (length p)) (sym (groups_whole p)) ∙ ap (λ (n : ℕ). says n (value_from (λ i b. b % 128 * 128 ^ i) 0 0 p)) z ∙ m.1)
   | inr m ↦ (let s = m.1 in cc)
@@ -199,7 +196,7 @@ extension_sound h dwt low (b ∷ p) v k e =
     let w = value_extended dwt low (b ∷ p) x in
     let q : v ≡ Extension dwt (low + 8 * value_from (λ i b. added (Extended true dwt low) i b) 0 0 (b ∷ p)) = stopped _ v f.ends in
     let r : v ≡ Extension dwt (low + 8 * extended (b ∷ p)) = q ∙ ap (λ (n : ℕ). Extension dwt (low + 8 * n)) w in
-    subst (λ (x : ItmPacket). Spells x (h ∷ (b ∷ p))) (sym r) (low, b ∷ p, under_8 low a.1, ap (λ (i : ℕ). i ∷ (b ∷ p)) a.0, x, refl)
+    subst (λ (x : ItmPacket). Spells x (h ∷ (b ∷ p))) (sym r) (low, b ∷ p, below low 8 a.1, ap (λ (i : ℕ). i ∷ (b ∷ p)) a.0, x, refl)
 
 -- whole are only spellings
 class_sound : (c : Class) (h : ℕ) (p : List ℕ) (v : ItmPacket) → class_of h ≡ c → after (begin c) (λ t. from t p) p ≡ Whole v → Spells v (h ∷ p)
@@ -235,7 +232,7 @@ class_sound (Extended false dwt low) h p v k e =
     let q : p ≡ [] = s.1 in
     let n : low ≡ low + 8 * 0 = omega arith in
     subst (λ (x : ItmPacket). Spells x (h ∷ p)) (sym s.0)
-    (low, [], under_8 low a.1, (let g : h ≡ 128 * 0 + 16 * low + 4 * bit_of dwt + 8 = a.0 in let r : h ∷ p ≡ (128 * 0 + 16 * low + 4 * bit_of dwt + 8) ∷ [] = cc in r), tt, n)
+    (low, [], below low 8 a.1, (let g : h ≡ 128 * 0 + 16 * low + 4 * bit_of dwt + 8 = a.0 in let r : h ∷ p ≡ (128 * 0 + 16 * low + 4 * bit_of dwt + 8) ∷ [] = cc in r), tt, n)
 class_sound (Extended true dwt low) h p v k e = extension_sound h dwt low p v k e
 class_sound Reserved h p v k e = cc
 
@@ -253,17 +250,11 @@ source_complete hardware n size value r s =
     let c = Source hardware n size in
     let w : value_from (λ i b. b * 256 ^ i) 0 0 p ≡ 0 + 256 ^ 0 * number p = value_number 0 0 p in
     let x : value_from (λ i b. b * 256 ^ i) 0 0 p ≡ value = (let e = s.4 in omega arith) in
-    rw s.2 (class_whole c p (source hardware n size value) (under n s.1) (λ e. cc)
+    rw s.2 (class_whole c p (source hardware n size value) (is_below n 32 s.1) (λ e. cc)
     (payload_complete c 0 0 p (source hardware n size value) (record {
       fills = count_fills (byte_count size) 0 p (some_count size) (let l = s.3 in omega arith);
       ends = ap (λ (i : ℕ). (let y : Next Partial ItmPacket = End (source hardware n size i) in y)) x;
     })))
-  where
-    under : (n : ℕ) → n < 32 → nat_lt n 32 ≡ true
-    under n h = grind (arith, nat_tests)
-
-is_under_128 : (n : ℕ) → n < 128 → nat_lt n 128 ≡ true
-is_under_128 n h = grind (arith, nat_tests)
 
 -- what a choice by a test gives where the test is true
 taken : (t : Bool) (x y z : Next Partial ItmPacket) → t ≡ true → x ≡ z → cond t x y ≡ z
@@ -275,7 +266,7 @@ local_complete lateness p h l =
     let m = continued_fills 4 0 p h (omega arith) in
     payload_complete (LocalLong lateness) 0 0 p (Local lateness (groups p)) (record {
       fills = m.0;
-      ends = taken (nat_lt (last_of p) 128) _ _ (End (Local lateness (groups p))) (is_under_128 (last_of p) m.1) (ap (λ (i : ℕ). (let y : Next Partial ItmPacket = End (Local lateness i) in y)) (groups_whole p));
+      ends = taken (nat_lt (last_of p) 128) _ _ (End (Local lateness (groups p))) (is_below (last_of p) 128 m.1) (ap (λ (i : ℕ). (let y : Next Partial ItmPacket = End (Local lateness i) in y)) (groups_whole p));
     })
 
 first_complete : (p : List ℕ) → IsContinued p → length p ≤ 4 → from (Payload First 0 0) p ≡ Whole (first_stamp (length p) (groups p))
@@ -284,7 +275,7 @@ first_complete p h l =
     let z : 0 + length p ≡ length p = omega arith in
     payload_complete First 0 0 p (first_stamp (length p) (groups p)) (record {
       fills = m.0;
-      ends = taken (nat_lt (last_of p) 128) _ _ (End (first_stamp (length p) (groups p))) (is_under_128 (last_of p) m.1)
+      ends = taken (nat_lt (last_of p) 128) _ _ (End (first_stamp (length p) (groups p))) (is_below (last_of p) 128 m.1)
           (ap (λ (i : ℕ). (let y : Next Partial ItmPacket = End (first_stamp (0 + length p) i) in y)) (groups_whole p)
           ∙ ap (λ (i : ℕ). (let y : Next Partial ItmPacket = End (first_stamp i (groups p)) in y)) z);
     })
@@ -295,7 +286,7 @@ second_complete p x h l e =
     let z : 0 + length p ≡ length p = omega arith in
     payload_complete Second 0 0 p x (record {
       fills = m.0;
-      ends = taken (nat_lt (last_of p) 128) _ _ (End x) (is_under_128 (last_of p) m.1)
+      ends = taken (nat_lt (last_of p) 128) _ _ (End x) (is_below (last_of p) 128 m.1)
           (ap (second_stamp (0 + length p)) (groups_whole p) ∙ ap (λ (i : ℕ). second_stamp i (groups p)) z ∙ e);
     })
 
@@ -306,21 +297,15 @@ extension_complete : (dwt : Bool) (low : ℕ) (p : List ℕ) → low < 8 → IsE
 extension_complete dwt low [] h x =
     let c = Extended false dwt low in
     let n : low ≡ low + 8 * 0 = omega arith in
-    class_whole c [] (Extension dwt (low + 8 * 0)) (under low h) (λ e. cc) (ap (λ (i : ℕ). (let y : Walked Partial ItmPacket = Whole (Extension dwt i) in y)) n)
-  where
-    under : (n : ℕ) → n < 8 → nat_lt n 8 ≡ true
-    under n h = grind (arith, nat_tests)
+    class_whole c [] (Extension dwt (low + 8 * 0)) (is_below low 8 h) (λ e. cc) (ap (λ (i : ℕ). (let y : Walked Partial ItmPacket = Whole (Extension dwt i) in y)) n)
 extension_complete dwt low (b ∷ p) h x =
     let c = Extended true dwt low in
     let w = value_extended dwt low (b ∷ p) x in
-    class_whole c (b ∷ p) (Extension dwt (low + 8 * extended (b ∷ p))) (under low h) (λ e. cc)
+    class_whole c (b ∷ p) (Extension dwt (low + 8 * extended (b ∷ p))) (is_below low 8 h) (λ e. cc)
     (payload_complete c 0 0 (b ∷ p) (Extension dwt (low + 8 * extended (b ∷ p))) (record {
       fills = extension_fills b p x;
       ends = ap (λ (i : ℕ). (let y : Next Partial ItmPacket = End (Extension dwt (low + 8 * i)) in y)) w;
     }))
-  where
-    under : (n : ℕ) → n < 8 → nat_lt n 8 ≡ true
-    under n h = grind (arith, nat_tests)
 
 whole_of : (v w : ItmPacket) (x : Walked Partial ItmPacket) → x ≡ Whole v → v ≡ w → x ≡ Whole w
 whole_of v w x e h = e ∙ ap (λ (i : ItmPacket). (let y : Walked Partial ItmPacket = Whole i in y)) h
@@ -464,7 +449,7 @@ second_ending count value h =
       w,
       payload_complete Second count value w x (record {
         fills = m.0;
-        ends = taken (nat_lt (last_of w) 128) (second_stamp (count + length w) g) (Fail LongStamp) (End x) (is_under_128 (last_of w) m.1) (second_of (count + length w) g 6 x l refl);
+        ends = taken (nat_lt (last_of w) 128) (second_stamp (count + length w) g) (Fail LongStamp) (End x) (is_below (last_of w) 128 m.1) (second_of (count + length w) g 6 x l refl);
       }),
     )
 

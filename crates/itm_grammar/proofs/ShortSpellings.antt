@@ -15,7 +15,7 @@ use Rattle.itm_grammar.specs.declared.packet.ItmPacket.TheVariants.{Sync, Overfl
 use Rattle.itm_grammar.specs.Spelling.{Spells, SpellsSource, byte_count, size_bits, late_bits, bit_of, number, groups, more_bit, IsContinued, IsExtended, extended}
 use Rattle.itm_grammar.specs.Proper.{IsProper}
 use Rattle.itm_grammar.specs.Shortest.{bytes_of, groups_of, group_count, is_short, extension_bytes, short, shortest_len, IsClear, HasShortest}
-use Rattle.itm_grammar.proofs.Deciding.{fits_within}
+use Rattle.itm_grammar.proofs.Deciding.{between, fits_within}
 
 abbrev AllBytes : List ℕ → Type 0
 AllBytes p = Each (λ b. b < 256) p
@@ -130,9 +130,7 @@ late_fits PacketLate = omega arith
 late_fits BothLate = omega arith
 
 short_is : (lateness : Lateness) (delta : ℕ) → is_short lateness delta ≡ true → (lateness ≡ Exact) × (0 < delta) × (delta < 7)
-short_is Exact delta e = let k = below delta e in (refl, k.0, k.1) where
-  below : (n : ℕ) → (nat_lt 0 n && nat_lt n 7) ≡ true → (0 < n) × (n < 7)
-  below n e = grind (arith, nat_tests)
+short_is Exact delta e = let k = between delta e in (refl, k.0, k.1)
 short_is StampLate delta e = cc
 short_is x delta e = cc
 
