@@ -261,34 +261,28 @@ taken : (t : Bool) (x y z : Next Partial ItmPacket) → t ≡ true → x ≡ z �
 taken true x y z e h = h
 taken false x y z e h = cc
 
+-- and so a payload of seven bits a byte ends
+stamped_complete : (most : ℕ) (p : List ℕ) (v : ItmPacket) (says : ℕ → ℕ → Next Partial ItmPacket) → IsContinued p → length p ≤ most → says (length p) (groups p) ≡ End v →
+    Fills (λ i b. longer most i b) 0 p × (cond (nat_lt (last_of p) 128) (says (0 + length p) (value_from (λ i b. b % 128 * 128 ^ i) 0 0 p)) (Fail LongStamp) ≡ End v)
+stamped_complete most p v says h l e =
+    let m = continued_fills most 0 p h (omega arith) in
+    let z : 0 + length p ≡ length p = omega arith in
+    (m.0, taken (nat_lt (last_of p) 128) _ _ (End v) (is_below (last_of p) 128 m.1) (ap (says (0 + length p)) (groups_whole p) ∙ ap (λ (i : ℕ). says i (groups p)) z ∙ e))
+
 local_complete : (lateness : Lateness) (p : List ℕ) → IsContinued p → length p ≤ 4 → from (Payload (LocalLong lateness) 0 0) p ≡ Whole (Local lateness (groups p))
 local_complete lateness p h l =
-    let m = continued_fills 4 0 p h (omega arith) in
-    payload_complete (LocalLong lateness) 0 0 p (Local lateness (groups p)) (record {
-      fills = m.0;
-      ends = taken (nat_lt (last_of p) 128) _ _ (End (Local lateness (groups p))) (is_below (last_of p) 128 m.1) (ap (λ (i : ℕ). (let y : Next Partial ItmPacket = End (Local lateness i) in y)) (groups_whole p));
-    })
+    let m = stamped_complete 4 p (Local lateness (groups p)) (λ _ n. End (Local lateness n)) h l refl in
+    payload_complete (LocalLong lateness) 0 0 p (Local lateness (groups p)) (record { fills = m.0; ends = m.1 })
 
 first_complete : (p : List ℕ) → IsContinued p → length p ≤ 4 → from (Payload First 0 0) p ≡ Whole (first_stamp (length p) (groups p))
 first_complete p h l =
-    let m = continued_fills 4 0 p h (omega arith) in
-    let z : 0 + length p ≡ length p = omega arith in
-    payload_complete First 0 0 p (first_stamp (length p) (groups p)) (record {
-      fills = m.0;
-      ends = taken (nat_lt (last_of p) 128) _ _ (End (first_stamp (length p) (groups p))) (is_below (last_of p) 128 m.1)
-          (ap (λ (i : ℕ). (let y : Next Partial ItmPacket = End (first_stamp (0 + length p) i) in y)) (groups_whole p)
-          ∙ ap (λ (i : ℕ). (let y : Next Partial ItmPacket = End (first_stamp i (groups p)) in y)) z);
-    })
+    let m = stamped_complete 4 p (first_stamp (length p) (groups p)) (λ i n. End (first_stamp i n)) h l refl in
+    payload_complete First 0 0 p (first_stamp (length p) (groups p)) (record { fills = m.0; ends = m.1 })
 
 second_complete : (p : List ℕ) (x : ItmPacket) → IsContinued p → length p ≤ 6 → second_stamp (length p) (groups p) ≡ End x → from (Payload Second 0 0) p ≡ Whole x
 second_complete p x h l e =
-    let m = continued_fills 6 0 p h (omega arith) in
-    let z : 0 + length p ≡ length p = omega arith in
-    payload_complete Second 0 0 p x (record {
-      fills = m.0;
-      ends = taken (nat_lt (last_of p) 128) _ _ (End x) (is_below (last_of p) 128 m.1)
-          (ap (second_stamp (0 + length p)) (groups_whole p) ∙ ap (λ (i : ℕ). second_stamp i (groups p)) z ∙ e);
-    })
+    let m = stamped_complete 6 p x second_stamp h l e in
+    payload_complete Second 0 0 p x (record { fills = m.0; ends = m.1 })
 
 second_of : (n g k : ℕ) (x : ItmPacket) → n ≡ k → second_stamp k g ≡ End x → second_stamp n g ≡ End x
 second_of n g k x e h = rw e h
