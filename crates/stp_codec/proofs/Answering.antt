@@ -18,7 +18,7 @@ use Rattle.trace_values.proofs.HuntedLemmas as hunting
 use Rattle.stp_grammar.proofs.Deciding.{decided}
 use Rattle.stp_codec.specs.Reading.{pattern, packets_in, packets_of, items_at, rest_found, rest_in, IsHunt}
 use Rattle.stp_codec.specs.Answers.{AnswersNibble}
-use Rattle.stp_codec.proofs.Taking.{At, packets_with, packets_step, goes_list, goes_step, stops_list, stops_step, fails_list, fails_step}
+use Rattle.stp_codec.proofs.Taking.{At, packets_with, packets_step, goes, stops, fails}
 
 f_is_not_last : pattern.unit ≢ pattern.last
 f_is_not_last e = omega (arith, e)
@@ -133,9 +133,10 @@ module _ (order : Order) where
 
     pub goes_answer : (t : Partial) → Go t ≡ rule order partial b.unit → Answers live t a Quiet
     goes_answer t e =
-        let x = told m live partial n b (Go t) l k e s.0 in (
-          goes_list order m live partial a n b l k t e s,
-          goes_step order m live partial a n b l k t e s,
+        let x = told m live partial n b (Go t) l k e s.0 in
+        let g = goes order m live partial a n b l k t e s in (
+          g.0,
+          g.1,
           inr (x.0.0, x.0.1, packets_with order (hunts m) n b Quiet (packets_step order m live partial a n b l k (Go t) e s), x.1),
         )
 
@@ -146,7 +147,7 @@ module _ (order : Order) where
 
       ends : (o : Option StpItem) → ((ps : List StpPacket) → Attributes a ps → o ≡ item_of (ps ++ v ∷ []) v) →
           AnswersNibble order before rest b.place (item_step b.place.half o) packets_after left → Answers live Start a' (item_step b.place.half o)
-      ends o is answer = (stops_list order m live partial a n b l k v a' e keeps s, stops_step order m live partial a n b l k v o e is s, answer)
+      ends o is answer = let g = stops order m live partial a n b l k v a' o e keeps is s in (g.0, g.1, answer)
 
       pub ends_answer : (o : Option StpItem) → ((ps : List StpPacket) → Attributes a ps → o ≡ item_of (ps ++ v ∷ []) v) → Answers live Start a' (item_step b.place.half o)
       ends_answer (Some item) is =
@@ -159,4 +160,5 @@ module _ (order : Order) where
     pub fails_answer : (r : Reason) → Fail r ≡ rule order partial b.unit → Answers false partial a (Faulty (record { at = b.place.at; half = b.place.half; reason = r }))
     fails_answer r e =
         let x = told m live partial n b (Fail r) l k e s.0 in
-        (fails_list order m live partial a n b l k r e s, fails_step order m live partial a n b l k r e s, (refl, refl, x.0.1, x.0.0))
+        let g = fails order m live partial a n b l k r e s in
+        (g.0, g.1, (refl, refl, x.0.1, x.0.0))
