@@ -1,11 +1,10 @@
 -- One more byte, in what a deformatter stands for.
-use Rattle.std.proofs.Common.{◌≡◌, ℕ, suc, ◌+◌, ◌-◌, ◌*◌, ◌≤◌, List, [], ◌∷◌, ◌++◌, refl, sym, ◌∙◌, ap, arith, subst, Bool, true, false, cond, Option, None}
+use Rattle.std.proofs.Common.{◌≡◌, ℕ, ◌+◌, ◌-◌, ◌*◌, ◌≤◌, List, [], ◌∷◌, ◌++◌, refl, sym, ◌∙◌, ap, arith, subst, Bool, true, false, cond, Option, None}
 use Rattle.std.specs.Prelude.{◌==◌, ◌&&◌, nat_le}
 use Rattle.std.proofs.lemmas.Bool.Decides.{nat_tests}
 use Rattle.deformatter.specs.Names.{Cell, Reason, Next, Go, End, Fail, Mode, Hunting, Place, Placed, byte_at, with_unit}
 use Rattle.deformatter.specs.Names.{Seeks, StandsIn, hunts, is_locked, live_after, state_after, PortItem, Full, State}
 use Rattle.deformatter.specs.Names.{start, rule, pattern, Hunter, placed_part, is_fit, state}
-use Rattle.frame_grammar.specs.Port as port
 use Rattle.deformatter.specs.Reading.{PortStream, read_after, all_skipped, port_stream, cells_in, id_in}
 use Rattle.deformatter.specs.Growth.{PortGrows, goes_on}
 use Rattle.port_sync.specs.declared.aligner.Part.{Part}
@@ -54,7 +53,12 @@ fed m live s u at byte l k r = fed_at (hunts m) u at byte s (is_read m live s u 
 pub long_enough : (run skipped byte : ℕ) → (nat_le run 3 && nat_le run skipped) ≡ true → (byte == 127 && run == 3) ≡ true → 3 ≤ skipped
 long_enough run skipped byte e f = grind (arith, nat_tests)
 
--- a byte in a hunt
+-- a byte of the hunt: how the reading grew, which gives nothing
+pub record Sought (h : Bool) (u : List Placed) (at byte : ℕ) (step : PortStep) : Type 0 where
+  pub grows : PortGrows (port_stream h u) (port_stream h (u ++ byte_at at byte ∷ [])) at step
+  pub cells : (given : List Cell) → given ≡ [] → cells_in (port_stream h (u ++ byte_at at byte ∷ [])) ≡ cells_in (port_stream h u) ++ given
+  pub id : id_in (port_stream h u) ≡ id_in (port_stream h (u ++ byte_at at byte ∷ []))
+
 module _ (m : Mode) (run skipped : ℕ) (u : List Placed) (at byte : ℕ) (live : Bool) (s : State) (e : m ≡ Hunting run skipped) (r : StandsIn pattern Full rule start m live s u) where
   seeks : Seeks pattern Full rule start run skipped u
   seeks = let t : StandsIn pattern Full rule start (Hunting run skipped) live s u = subst (λ (x : Mode). StandsIn pattern Full rule start x live s u) e r in t.0
@@ -66,28 +70,21 @@ module _ (m : Mode) (run skipped : ℕ) (u : List Placed) (at byte : ℕ) (live 
   new t f = ap (λ (x : Mode). port_stream (hunts x) (u ++ byte_at at byte ∷ [])) e ∙ seeks_new u at byte seeks.none
       ∙ ap (λ (x : Bool). after (port_hunt u) at byte x) (ap (λ (n : ℕ). byte == 127 && n == 3) seeks.run_is ∙ f)
 
-  grows_by : (a b c : PortStream) (step : PortStep) → a ≡ b → port_stream (hunts m) (u ++ byte_at at byte ∷ []) ≡ c → PortGrows b c at step → PortGrows a (port_stream (hunts m) (u ++ byte_at at byte ∷ [])) at step
-  grows_by a b c step i j g = subst (λ (x : PortStream). PortGrows x (port_stream (hunts m) (u ++ byte_at at byte ∷ [])) at step) (sym i) (subst (λ (x : PortStream). PortGrows b x at step) (sym j) g)
+  sought : (t : Bool) (step : PortStep) → (byte == 127 && run == 3) ≡ t → cells_in (after (port_hunt u) at byte t) ≡ [] → id_in (after (port_hunt u) at byte t) ≡ None →
+      PortGrows (all_skipped skipped) (after (port_hunt u) at byte t) at step → Sought (hunts m) u at byte step
+  sought t step f empty none g = record {
+    grows = subst (λ (x : PortStream). PortGrows x (port_stream (hunts m) (u ++ byte_at at byte ∷ [])) at step) (sym old) (subst (λ (x : PortStream). PortGrows (all_skipped skipped) x at step) (sym (new t f)) g);
+    cells = λ given e. ap cells_in (new t f) ∙ empty ∙ sym e ∙ ap (λ (a : PortStream). cells_in a ++ given) (sym old);
+    id = ap id_in old ∙ sym (ap id_in (new t f) ∙ none);
+  }
 
-  pub skips-step : (byte == 127 && run == 3) ≡ false → PortGrows (port_stream (hunts m) u) (port_stream (hunts m) (u ++ byte_at at byte ∷ [])) at Quiet
-  skips-step f = grows_by (port_stream (hunts m) u) (all_skipped skipped) (all_skipped (suc (port_hunt u).units)) Quiet old (new false f)
+  pub skips : (byte == 127 && run == 3) ≡ false → Sought (hunts m) u at byte Quiet
+  skips f = sought false Quiet f refl refl
       (record { items = refl; halves = refl; fulls = refl; frames = refl; fault = refl; hunt = (refl, (let k = seeks.units_is in omega (arith, k))) })
 
-  pub skips-cells : (byte == 127 && run == 3) ≡ false → (given : List Cell) → given ≡ [] → cells_in (port_stream (hunts m) (u ++ byte_at at byte ∷ [])) ≡ cells_in (port_stream (hunts m) u) ++ given
-  skips-cells f given g = ap cells_in (new false f) ∙ sym g ∙ ap (λ (a : PortStream). cells_in a ++ given) (sym old)
-
-  pub skips-id : (byte == 127 && run == 3) ≡ false → id_in (port_stream (hunts m) u) ≡ id_in (port_stream (hunts m) (u ++ byte_at at byte ∷ []))
-  skips-id f = ap id_in old ∙ sym (ap id_in (new false f))
-
-  pub locks-step : (byte == 127 && run == 3) ≡ true → 3 ≤ skipped → PortGrows (port_stream (hunts m) u) (port_stream (hunts m) (u ++ byte_at at byte ∷ [])) at (Locked (skipped - 3))
-  locks-step f l = grows_by (port_stream (hunts m) u) (all_skipped skipped) (after (port_hunt u) at byte true) (Locked (skipped - 3)) old (new true f)
+  pub locks : (byte == 127 && run == 3) ≡ true → 3 ≤ skipped → Sought (hunts m) u at byte (Locked (skipped - 3))
+  locks f l = sought true (Locked (skipped - 3)) f refl refl
       (record { items = refl; halves = refl; fulls = refl; frames = refl; fault = refl; hunt = (refl, refl, ap (λ (n : ℕ). n - 3) seeks.units_is, omega (arith, l)) })
-
-  pub locks-cells : (byte == 127 && run == 3) ≡ true → (given : List Cell) → given ≡ [] → cells_in (port_stream (hunts m) (u ++ byte_at at byte ∷ [])) ≡ cells_in (port_stream (hunts m) u) ++ given
-  locks-cells f given g = ap cells_in (new true f) ∙ sym g ∙ ap (λ (a : PortStream). cells_in a ++ given) (sym old)
-
-  pub locks-id : (byte == 127 && run == 3) ≡ true → id_in (port_stream (hunts m) u) ≡ id_in (port_stream (hunts m) (u ++ byte_at at byte ∷ []))
-  locks-id f = ap id_in old ∙ sym (ap id_in (new true f))
 
 -- a deformatter that doesn't hunt reads
 pub reads_on : (phase : Phase) (hunter : Hunter) (skipped : ℕ) → (phase ≡ PhaseHunting → ⊥) → is_locked (mode_in phase hunter skipped) ≡ true

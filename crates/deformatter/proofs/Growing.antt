@@ -7,7 +7,7 @@ use Rattle.deformatter.specs.Names.{Reason, Next, Go, End, Fail, Place, Placed, 
 use Rattle.deformatter.specs.Names.{PortItem, Full, Half, Frame, State, start, item_cells, cells_of_items, id_of_items}
 use Rattle.deformatter.specs.Names.{fulls_in, halves_in, frames_in}
 use Rattle.frame_grammar.proofs.Items.{id_of_items-push, cells_of_items-push}
-use Rattle.deformatter.specs.Reading.{items_of, read_after, cells_in, id_in}
+use Rattle.deformatter.specs.Reading.{PortStream, items_of, read_after, cells_in, id_in}
 use Rattle.deformatter.specs.Growth.{place_at, PortGrows, PortSettled, PortRises}
 use Rattle.deformatter.specs.Rule.{step_by, cells_by, id_by}
 use Rattle.deformatter.proofs.Lawful.{Lawful}
@@ -100,20 +100,28 @@ no_less f old new more e =
     ap (λ (l : List (PortItem × Place)). sum_by f (items_of l)) e ∙ ap (sum_by f) (map-append (λ (x : PortItem × Place). x.0) old more) ∙ sum_by-append f (items_of old) (items_of more) in
     omega arith
 
+-- where no item is more
+rises_without : (old new : PortStream) (at : ℕ) → new.items ≡ old.items → cells_in new ≡ cells_in old ++ [] → old.halves ≤ new.halves → FaultAt at old.fault new.fault → PortRises old new at
+rises_without old new at e c h f =
+    let items : new.items ≡ old.items ++ [] = e ∙ sym (append-nil old.items) in
+    record {
+      more = [];
+      items = items;
+      all = tt;
+      more_cells = [];
+      cells = c;
+      halves = h;
+      fulls = no_less fulls_in old.items new.items [] items;
+      frames = no_less frames_in old.items new.items [] items;
+      fault = f;
+    }
+
 -- what is more is at the byte
 pub rises : (skipped : ℕ) (p : Progress State PortItem) (at byte : ℕ) (n : Next State PortItem) → p.fault ≡ None → Lawful p.state n →
     PortRises (read_after skipped p) (read_after skipped (with_unit start p (byte_at at byte) n None)) at
-rises skipped p at byte (Go t) f l = record {
-  more = [];
-  items = sym (append-nil p.items);
-  all = tt;
-  more_cells = [];
-  cells = cells_fed skipped p (byte_at at byte) (Go t);
-  halves = elim l.1 [ inl e ↦ omega (arith, e) | inr e ↦ omega (arith, e) ];
-  fulls = omega arith;
-  frames = omega arith;
-  fault = subst (λ (g : Option (Place × Reason)). FaultAt at g None) (sym f) tt;
-}
+rises skipped p at byte (Go t) f l =
+    rises_without _ _ at refl (cells_fed skipped p (byte_at at byte) (Go t)) (elim l.1 [ inl e ↦ omega (arith, e) | inr e ↦ omega (arith, e) ])
+    (subst (λ (g : Option (Place × Reason)). FaultAt at g None) (sym f) tt)
 rises skipped p at byte (End v) f l = record {
   more = (v, place_at at) ∷ [];
   items = refl;
@@ -129,14 +137,6 @@ rises skipped p at byte (End v) f l = record {
   more Full l = let e = sum_push halves_in p.items Full (place_at at) in omega (arith, e, l)
   more Half l = let e = sum_push halves_in p.items Half (place_at at) in omega (arith, e, l)
   more (Frame g h) l = let e = sum_push halves_in p.items (Frame g h) (place_at at) in omega (arith, e, l)
-rises skipped p at byte (Fail e) f l = record {
-  more = [];
-  items = sym (append-nil p.items);
-  all = tt;
-  more_cells = [];
-  cells = cells_fed skipped p (byte_at at byte) (Fail e);
-  halves = omega arith;
-  fulls = omega arith;
-  frames = omega arith;
-  fault = subst (λ (g : Option (Place × Reason)). FaultAt at g (Some (place_at at, e))) (sym f) refl;
-}
+rises skipped p at byte (Fail e) f l =
+    rises_without _ _ at refl (cells_fed skipped p (byte_at at byte) (Fail e)) (omega arith)
+    (subst (λ (g : Option (Place × Reason)). FaultAt at g (Some (place_at at, e))) (sym f) refl)

@@ -1,5 +1,5 @@
 -- The parts of a state that a deformatter keeps.
-use Rattle.std.proofs.Common.{◌≡◌, ℕ, ◌+◌, refl, sym, ap, arith, Bool, true, false, cond}
+use Rattle.std.proofs.Common.{◌≡◌, ℕ, ◌+◌, refl, sym, ap, arith, Bool, cond}
 use Rattle.std.proofs.lemmas.Bool.{eq-eqb, ne_eqb}
 use Rattle.deformatter.specs.Names.{Go, State, size_of, placed_part}
 use Rattle.port_sync.specs.declared.aligner.Part.{Part}

@@ -1,5 +1,5 @@
 -- Laws of the reading of a port's bytes.
-use Rattle.std.proofs.Common.{◌≡◌, ℕ, ◌+◌, List, [], ◌∷◌, ◌++◌, refl, sym, ◌∙◌, ap, inl, inr, arith, subst, append_assoc, append-nil, Bool, true, false, Option, None, Some}
+use Rattle.std.proofs.Common.{◌≡◌, ℕ, List, [], ◌∷◌, ◌++◌, refl, sym, ◌∙◌, ap, inl, inr, arith, subst, append_assoc, append-nil, Bool, true, false, Option, None, Some}
 use Rattle.std.specs.Prelude.{is_none}
 use Rattle.deformatter.specs.Names.{Reason, Place, Placed, byte_at, with_unit, advance, FaultAt, PortItem, Full, start}
 use Rattle.deformatter.specs.Names.{rule, fulls_in, frames_in}

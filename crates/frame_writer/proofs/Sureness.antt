@@ -10,6 +10,8 @@ use Rattle.frame_writer.specs.Written.{Tagged, none_later, segment_frames, writt
 use Rattle.frame_writer.specs.Unfinished.{middle, continued, is_sound, HasOne}
 use Rattle.frame_writer.specs.Writer.{to_come, appended, as_frame, Stands}
 use Rattle.frame_writer.specs.Fronts.{all_but_last, sure, sure_after}
+use Rattle.frame_writer.specs.Sure.{IsSure, Appends}
+use Rattle.frame_writer.specs.declared.sure.SureWriter.{SureWriter}
 use Rattle.frame_writer.proofs.Frames.{filled_fewer, filled_less, by_some, nothing, opens, held_room}
 use Rattle.frame_writer.proofs.Standing.{as_bytes, stands_now}
 use Rattle.frame_writer.proofs.Fronts.{last_off, sure_all, all_sure, none_last}
@@ -56,10 +58,6 @@ module _ (every halves : ℕ) where
   comes n [] None (Some b) x t e = frames_come n None x t e
   comes n [] (Some i) (Some b) x t e = frames_come n (Some i) (record { id = i; byte = b }) (x ∷ t) e
 
--- so something is still to come where a byte more is put
-pub put_comes : (w : FrameWriter) (x : Tagged) → to_come w (x ∷ []) [] ≡ [] → ⊥
-put_comes w x e = comes w.every w.halves w.frames w.pairs.items w.id w.held x [] e
-
 module _ (w v : FrameWriter) (every halves : ℕ) (closed : List (List Tagged)) (t : List Tagged) (y : Tagged) (ys : List Tagged) (out ready so_far : List ℕ)
     (stands : Stands w every halves closed t so_far) (written : so_far ≡ sure_after every halves closed t ++ ready)
     (came : to_come w (y ∷ ys) [] ≡ as_frame out ++ to_come v [] []) where
@@ -76,13 +74,13 @@ module _ (w v : FrameWriter) (every halves : ℕ) (closed : List (List Tagged)) 
   is_sure = sure_all every halves closed (t ++ xs) (let k = length-append t xs in omega arith) ∙ ap (λ (l : List (List ℕ)). concat (all_but_last l)) all
 
   -- a frame is begun after those that are whole
-  pub begun_so_far : HasOne (to_come v [] []) → so_far ++ out ≡ sure_after every halves closed (t ++ xs) ++ []
+  begun_so_far : HasOne (to_come v [] []) → so_far ++ out ≡ sure_after every halves closed (t ++ xs) ++ []
   begun_so_far one =
       sym (append-nil (sure_after every halves closed (t ++ xs)) ∙ is_sure
       ∙ ap (λ (l : List (List ℕ)). concat (all_but_last ((stands.done ++ as_frame out) ++ l))) one.1
       ∙ ap concat (last_off (stands.done ++ as_frame out) one.0 [] ∙ append-nil (stands.done ++ as_frame out)) ∙ bytes)
 
-  pub begun_grown : HasOne (to_come v [] []) → sure_after every halves closed (t ++ xs) ≡ sure_after every halves closed t ++ (ready ++ out)
+  begun_grown : HasOne (to_come v [] []) → sure_after every halves closed (t ++ xs) ≡ sure_after every halves closed t ++ (ready ++ out)
   begun_grown one =
       sym (append-nil (sure_after every halves closed (t ++ xs))) ∙ sym (begun_so_far one) ∙ ap (λ (l : List ℕ). l ++ out) written
       ∙ append_assoc (sure_after every halves closed t) ready out
@@ -98,11 +96,39 @@ module _ (w v : FrameWriter) (every halves : ℕ) (closed : List (List Tagged)) 
   whole_sure some none =
       is_sure ∙ ap (λ (l : List (List ℕ)). concat (all_but_last ((stands.done ++ as_frame out) ++ l))) none ∙ whole some out refl none
 
-  pub whole_grown : (to_come w xs [] ≡ [] → ⊥) → to_come v [] [] ≡ [] → sure_after every halves closed (t ++ xs) ≡ sure_after every halves closed t ++ ready
+  whole_grown : (to_come w xs [] ≡ [] → ⊥) → to_come v [] [] ≡ [] → sure_after every halves closed (t ++ xs) ≡ sure_after every halves closed t ++ ready
   whole_grown some none = whole_sure some none ∙ written
 
-  pub whole_so_far : (to_come w xs [] ≡ [] → ⊥) → to_come v [] [] ≡ [] → so_far ++ out ≡ sure_after every halves closed (t ++ xs) ++ out
+  whole_so_far : (to_come w xs [] ≡ [] → ⊥) → to_come v [] [] ≡ [] → so_far ++ out ≡ sure_after every halves closed (t ++ xs) ++ out
   whole_so_far some none = ap (λ (l : List ℕ). l ++ out) (sym (whole_sure some none))
+
+-- what bytes that were put append
+module _ (old new : SureWriter) (y : Tagged) (ys : List Tagged) (out before after : List ℕ)
+    (puts : (every halves : ℕ) (closed : List (List Tagged)) (t : List Tagged) (so_far : List ℕ) → Stands old.writer every halves closed t so_far → Stands new.writer every halves closed (t ++ y ∷ ys) (so_far ++ out))
+    (came : to_come old.writer (y ∷ ys) [] ≡ as_frame out ++ to_come new.writer [] []) where
+  appends_by : (more : List ℕ) → after ≡ before ++ more → ((every halves : ℕ) (closed : List (List Tagged)) (t : List Tagged) (s : IsSure old every halves closed t) →
+      (s.so_far ++ out ≡ sure_after every halves closed (t ++ y ∷ ys) ++ new.ready.items) × (sure_after every halves closed (t ++ y ∷ ys) ≡ sure_after every halves closed t ++ more)) →
+      Appends old new (y ∷ ys) before after
+  appends_by more a sure = record {
+    more = more;
+    appended = a;
+    list = λ every halves closed t s. record { so_far = s.so_far ++ out; stands = puts every halves closed t s.so_far s.stands; written = (sure every halves closed t s).0 };
+    grown = λ every halves closed t s. (sure every halves closed t s).1;
+  }
+
+  pub appends_begun : after ≡ before ++ (old.ready.items ++ out) → HasOne (to_come new.writer [] []) → new.ready.items ≡ [] → Appends old new (y ∷ ys) before after
+  appends_begun a one none = appends_by (old.ready.items ++ out) a (λ every halves closed t s. (
+    begun_so_far old.writer new.writer every halves closed t y ys out old.ready.items s.so_far s.stands s.written came one ∙ ap (λ (l : List ℕ). sure_after every halves closed (t ++ y ∷ ys) ++ l) (sym none),
+    begun_grown old.writer new.writer every halves closed t y ys out old.ready.items s.so_far s.stands s.written came one,
+  ))
+
+  pub appends_whole : after ≡ before ++ old.ready.items → to_come new.writer [] [] ≡ [] → new.ready.items ≡ out → Appends old new (y ∷ ys) before after
+  appends_whole a none held = appends_by old.ready.items a (λ every halves closed t s. (
+    whole_so_far old.writer new.writer every halves closed t y ys out old.ready.items s.so_far s.stands s.written came some none ∙ ap (λ (l : List ℕ). sure_after every halves closed (t ++ y ∷ ys) ++ l) (sym held),
+    whole_grown old.writer new.writer every halves closed t y ys out old.ready.items s.so_far s.stands s.written came some none,
+  )) where
+    some : to_come old.writer (y ∷ ys) [] ≡ [] → ⊥
+    some e = comes old.writer.every old.writer.halves old.writer.frames old.writer.pairs.items old.writer.id old.writer.held y ys e
 
 -- all is sure after the end of a segment
 module _ (v : FrameWriter) (every halves : ℕ) (closed : List (List Tagged)) (t : List Tagged) (out ready so_far : List ℕ)

@@ -4,7 +4,7 @@ use Rattle.itm_grammar.specs.Names.{BadItmSync, Next, Go, End, Fail, Placed}
 use Rattle.itm_grammar.specs.declared.packet.ItmPacket.{ItmPacket}
 use Rattle.itm_grammar.specs.declared.packet.ItmPacket.TheVariants.{Sync}
 use Rattle.itm_grammar.specs.declared.header.Class.{Class}
-use Rattle.itm_grammar.specs.declared.header.Class.TheVariants.{Zero, Overflow as Overflowed, Source, LocalShort, LocalLong, GlobalFirst as First, GlobalSecond as Second, Extension as Extended, Reserved}
+use Rattle.itm_grammar.specs.declared.header.Class.TheVariants.{Overflow as Overflowed, LocalShort, Extension as Extended, Reserved}
 use Rattle.itm_grammar.specs.declared.partial.Partial.{Partial}
 use Rattle.itm_grammar.specs.declared.partial.Partial.TheVariants.{Header, Zeros, Payload}
 use Rattle.itm_grammar.specs.Header.{class_of}

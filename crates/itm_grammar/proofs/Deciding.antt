@@ -23,7 +23,7 @@ use Rattle.itm_grammar.specs.Spelling.{Spells, SpellsSource, why, reason_of, byt
 use Rattle.itm_grammar.specs.Rule.{rule, begin, zeros_with, last, another_follows, most_bytes, source, first_stamp, second_stamp, count_of}
 use Rattle.itm_grammar.proofs.Counting.{counts}
 use Rattle.itm_grammar.proofs.Headers.{chosen, header_of, header_is, made}
-use Rattle.itm_grammar.proofs.Payloads.{from, says, value_from, last_of, added, payload_cases, payload_sound, payload_complete, last_ends, fills_count, count_fills, longer, fills_continued, continued_fills, value_number, value_groups, extension_filled, extension_fills, value_extended}
+use Rattle.itm_grammar.proofs.Payloads.{from, says, value_from, last_of, added, payload_cases, payload_sound, payload_complete, Fills, last_ends, fills_count, count_fills, longer, fills_continued, continued_fills, value_number, value_groups, extension_filled, extension_fills, value_extended}
 
 stop_whole : (v w : ItmPacket) (k : Partial → Walked Partial ItmPacket) (p : List ℕ) → after (End v) k p ≡ Whole w → (w ≡ v) × (p ≡ [])
 stop_whole v w k [] e = (cc, refl)
@@ -114,13 +114,13 @@ fits_within (b ∷ p) (suc n) h =
     let e : 128 ^ suc n ≡ 128 ^ n * 128 = pow-suc 128 n in
     rw e (omega arith)
 
-under_128 : (n : ℕ) → nat_lt n 128 ≡ true → n < 128
-under_128 n e = grind (arith, nat_tests)
+pub below : (n most : ℕ) → nat_lt n most ≡ true → n < most
+below n most e = grind (arith, nat_tests)
 
-under_8 : (n : ℕ) → nat_lt n 8 ≡ true → n < 8
-under_8 n e = grind (arith, nat_tests)
+is_below : (n most : ℕ) → n < most → nat_lt n most ≡ true
+is_below n most h = grind (arith, nat_tests)
 
-between : (n : ℕ) → (nat_lt 0 n && nat_lt n 7) ≡ true → (0 < n) × (n < 7)
+pub between : (n : ℕ) → (nat_lt 0 n && nat_lt n 7) ≡ true → (0 < n) × (n < 7)
 between n e = grind (arith, nat_tests)
 
 stopped : (x v : ItmPacket) → (let s : Next Partial ItmPacket = End x in s ≡ End v) → v ≡ x
@@ -138,71 +138,52 @@ source_sound h hardware n size p v k e =
     let w' : value_from (λ i b. b * 256 ^ i) 0 0 p ≡ number p = omega arith in
     let s : (let x : Next Partial ItmPacket = End (source hardware n size (value_from (λ i b. b * 256 ^ i) 0 0 p)) in x ≡ End v) = f.ends in
     let q : source hardware n size (value_from (λ i b. b * 256 ^ i) 0 0 p) ≡ v = cc in
-    ((p, under n a.1, ap (λ (i : ℕ). i ∷ p) a.0, omega arith, refl), sym q ∙ ap (source hardware n size) w')
-  where
-    under : (n : ℕ) → nat_lt n 32 ≡ true → n < 32
-    under n e = grind (arith, nat_tests)
+    ((p, below n 32 a.1, ap (λ (i : ℕ). i ∷ p) a.0, omega arith, refl), sym q ∙ ap (source hardware n size) w')
 
 -- the number of a payload of seven bits a byte
 groups_whole : (p : List ℕ) → value_from (λ i b. b % 128 * 128 ^ i) 0 0 p ≡ groups p
 groups_whole p = let w = value_groups 0 0 p in omega arith
 
+-- such a payload ends with its last byte, and what ends with it is said of its groups
+stamped_whole : (most : ℕ) (p : List ℕ) (v : ItmPacket) (says : ℕ → ℕ → Next Partial ItmPacket) → 0 < most → Fills (λ i b. longer most i b) 0 p →
+    cond (nat_lt (last_of p) 128) (says (0 + length p) (value_from (λ i b. b % 128 * 128 ^ i) 0 0 p)) (Fail LongStamp) ≡ End v →
+    IsContinued p × (length p ≤ most) × (says (length p) (groups p) ≡ End v)
+stamped_whole most p v says h f e = elim (chosen (nat_lt (last_of p) 128) e) [
+  | inl m ↦
+      let t = fills_continued most 0 p h f (below (last_of p) 128 m.0) in
+      let z : length p ≡ 0 + length p = omega arith in
+      (t.0, (let l = t.1 in omega arith), ap (says (length p)) (sym (groups_whole p)) ∙ ap (λ (n : ℕ). says n (value_from (λ i b. b % 128 * 128 ^ i) 0 0 p)) z ∙ m.1)
+  | inr m ↦ (let s = m.1 in cc)
+]
+
 local_sound : (h : ℕ) (lateness : Lateness) (p : List ℕ) (v : ItmPacket) → class_of h ≡ LocalLong lateness → from (Payload (LocalLong lateness) 0 0) p ≡ Whole v → Spells v (h ∷ p)
 local_sound h lateness p v k e =
-    let c = LocalLong lateness in
-    let f = payload_sound c 0 0 p v e in
-    let a = header_is h c k (λ e. cc) in
-    elim (chosen (nat_lt (last_of p) 128) f.ends) [
-      | inl m ↦
-          let t = fills_continued 4 0 p (omega arith) f.fills (under_128 (last_of p) m.0) in
-          let w = groups_whole p in
-          let s = m.1 in
-          let q : v ≡ Local lateness (value_from (λ i b. b % 128 * 128 ^ i) 0 0 p) = cc in
-          subst (λ (x : ItmPacket). Spells x (h ∷ p)) (sym q) (inr (p, ap (λ (i : ℕ). i ∷ p) a.0, t.0, (let l = t.1 in omega arith), w))
-      | inr m ↦ (let s = m.1 in cc)
-    ]
+    let f = payload_sound (LocalLong lateness) 0 0 p v e in
+    let m = stamped_whole 4 p v (λ _ n. End (Local lateness n)) (omega arith) f.fills f.ends in
+    subst (λ (x : ItmPacket). Spells x (h ∷ p)) (sym (stopped _ v m.2))
+    (inr (p, ap (λ (i : ℕ). i ∷ p) (header_is h (LocalLong lateness) k (λ e. cc)).0, m.0, m.1, refl))
 
 first_sound : (h : ℕ) (p : List ℕ) (v : ItmPacket) → class_of h ≡ First → from (Payload First 0 0) p ≡ Whole v → Spells v (h ∷ p)
 first_sound h p v k e =
     let f = payload_sound First 0 0 p v e in
-    let a = header_is h First k (λ e. cc) in
-    elim (chosen (nat_lt (last_of p) 128) f.ends) [
-      | inl m ↦
-          let t = fills_continued 4 0 p (omega arith) f.fills (under_128 (last_of p) m.0) in
-          let w = groups_whole p in
-          let l : length p ≤ 4 = (let l = t.1 in omega arith) in
-          let z : 0 + length p ≡ length p = omega arith in
-          let s = m.1 in
-          let q : v ≡ first_stamp (0 + length p) (value_from (λ i b. b % 128 * 128 ^ i) 0 0 p) = stopped _ v s in
-          let r : v ≡ first_stamp (length p) (groups p) = q ∙ ap (λ (n : ℕ). first_stamp n (value_from (λ i b. b % 128 * 128 ^ i) 0 0 p)) z ∙ ap (first_stamp (length p)) w in
-          let d = parts (groups p) (fits_within p 4 l) in
-          subst (λ (x : ItmPacket). Spells x (h ∷ p)) (sym r) (p, ap (λ (i : ℕ). i ∷ p) a.0, t.0, refl, l, d.0, d.1)
-      | inr m ↦ (let s = m.1 in cc)
-    ]
+    let m = stamped_whole 4 p v (λ i n. End (first_stamp i n)) (omega arith) f.fills f.ends in
+    let d = parts (groups p) (fits_within p 4 m.1) in
+    subst (λ (x : ItmPacket). Spells x (h ∷ p)) (sym (stopped _ v m.2))
+    (p, ap (λ (i : ℕ). i ∷ p) (header_is h First k (λ e. cc)).0, m.0, refl, m.1, d.0, d.1)
 
 second_sound : (h : ℕ) (p : List ℕ) (v : ItmPacket) → class_of h ≡ Second → from (Payload Second 0 0) p ≡ Whole v → Spells v (h ∷ p)
 second_sound h p v k e =
     let f = payload_sound Second 0 0 p v e in
+    let m = stamped_whole 6 p v second_stamp (omega arith) f.fills f.ends in
     let a = header_is h Second k (λ e. cc) in
-    elim (chosen (nat_lt (last_of p) 128) f.ends) [
-      | inl m ↦
-          let t = fills_continued 6 0 p (omega arith) f.fills (under_128 (last_of p) m.0) in
-          let w = groups_whole p in
-          let z : 0 + length p ≡ length p = omega arith in
-          let s : second_stamp (length p) (groups p) ≡ End v =
-          ap (second_stamp (length p)) (sym w) ∙ ap (λ (n : ℕ). second_stamp n (value_from (λ i b. b % 128 * 128 ^ i) 0 0 p)) (sym z) ∙ m.1 in
-          elim (chosen (length p == 4) s) [
-            | inl o ↦
-                let q : v ≡ GlobalSecond false (groups p % 2 ^ 22) = stopped _ v o.1 in
-                subst (λ (x : ItmPacket). Spells x (h ∷ p)) (sym q) (p, ap (λ (i : ℕ). i ∷ p) a.0, t.0, eqb-true (length p) 4 o.0, refl)
-            | inr o ↦ elim (chosen (length p == 6) o.1) [
-              | inl u ↦
-                  let q : v ≡ GlobalSecond true (groups p % 2 ^ 38) = stopped _ v u.1 in
-                  subst (λ (x : ItmPacket). Spells x (h ∷ p)) (sym q) (p, ap (λ (i : ℕ). i ∷ p) a.0, t.0, eqb-true (length p) 6 u.0, refl)
-              | inr u ↦ (let s = u.1 in cc)
-            ]
-          ]
-      | inr m ↦ (let s = m.1 in cc)
+    elim (chosen (length p == 4) m.2) [
+      | inl o ↦
+          subst (λ (x : ItmPacket). Spells x (h ∷ p)) (sym (stopped _ v o.1)) (p, ap (λ (i : ℕ). i ∷ p) a.0, m.0, eqb-true (length p) 4 o.0, refl)
+      | inr o ↦ elim (chosen (length p == 6) o.1) [
+        | inl u ↦
+            subst (λ (x : ItmPacket). Spells x (h ∷ p)) (sym (stopped _ v u.1)) (p, ap (λ (i : ℕ). i ∷ p) a.0, m.0, eqb-true (length p) 6 u.0, refl)
+        | inr u ↦ (let s = u.1 in cc)
+      ]
     ]
 
 extension_sound : (h : ℕ) (dwt : Bool) (low : ℕ) (p : List ℕ) (v : ItmPacket) → class_of h ≡ Extended true dwt low → from (Payload (Extended true dwt low) 0 0) p ≡ Whole v → Spells v (h ∷ p)
@@ -215,7 +196,7 @@ extension_sound h dwt low (b ∷ p) v k e =
     let w = value_extended dwt low (b ∷ p) x in
     let q : v ≡ Extension dwt (low + 8 * value_from (λ i b. added (Extended true dwt low) i b) 0 0 (b ∷ p)) = stopped _ v f.ends in
     let r : v ≡ Extension dwt (low + 8 * extended (b ∷ p)) = q ∙ ap (λ (n : ℕ). Extension dwt (low + 8 * n)) w in
-    subst (λ (x : ItmPacket). Spells x (h ∷ (b ∷ p))) (sym r) (low, b ∷ p, under_8 low a.1, ap (λ (i : ℕ). i ∷ (b ∷ p)) a.0, x, refl)
+    subst (λ (x : ItmPacket). Spells x (h ∷ (b ∷ p))) (sym r) (low, b ∷ p, below low 8 a.1, ap (λ (i : ℕ). i ∷ (b ∷ p)) a.0, x, refl)
 
 -- whole are only spellings
 class_sound : (c : Class) (h : ℕ) (p : List ℕ) (v : ItmPacket) → class_of h ≡ c → after (begin c) (λ t. from t p) p ≡ Whole v → Spells v (h ∷ p)
@@ -251,7 +232,7 @@ class_sound (Extended false dwt low) h p v k e =
     let q : p ≡ [] = s.1 in
     let n : low ≡ low + 8 * 0 = omega arith in
     subst (λ (x : ItmPacket). Spells x (h ∷ p)) (sym s.0)
-    (low, [], under_8 low a.1, (let g : h ≡ 128 * 0 + 16 * low + 4 * bit_of dwt + 8 = a.0 in let r : h ∷ p ≡ (128 * 0 + 16 * low + 4 * bit_of dwt + 8) ∷ [] = cc in r), tt, n)
+    (low, [], below low 8 a.1, (let g : h ≡ 128 * 0 + 16 * low + 4 * bit_of dwt + 8 = a.0 in let r : h ∷ p ≡ (128 * 0 + 16 * low + 4 * bit_of dwt + 8) ∷ [] = cc in r), tt, n)
 class_sound (Extended true dwt low) h p v k e = extension_sound h dwt low p v k e
 class_sound Reserved h p v k e = cc
 
@@ -269,51 +250,39 @@ source_complete hardware n size value r s =
     let c = Source hardware n size in
     let w : value_from (λ i b. b * 256 ^ i) 0 0 p ≡ 0 + 256 ^ 0 * number p = value_number 0 0 p in
     let x : value_from (λ i b. b * 256 ^ i) 0 0 p ≡ value = (let e = s.4 in omega arith) in
-    rw s.2 (class_whole c p (source hardware n size value) (under n s.1) (λ e. cc)
+    rw s.2 (class_whole c p (source hardware n size value) (is_below n 32 s.1) (λ e. cc)
     (payload_complete c 0 0 p (source hardware n size value) (record {
       fills = count_fills (byte_count size) 0 p (some_count size) (let l = s.3 in omega arith);
       ends = ap (λ (i : ℕ). (let y : Next Partial ItmPacket = End (source hardware n size i) in y)) x;
     })))
-  where
-    under : (n : ℕ) → n < 32 → nat_lt n 32 ≡ true
-    under n h = grind (arith, nat_tests)
-
-is_under_128 : (n : ℕ) → n < 128 → nat_lt n 128 ≡ true
-is_under_128 n h = grind (arith, nat_tests)
 
 -- what a choice by a test gives where the test is true
 taken : (t : Bool) (x y z : Next Partial ItmPacket) → t ≡ true → x ≡ z → cond t x y ≡ z
 taken true x y z e h = h
 taken false x y z e h = cc
 
+-- and so a payload of seven bits a byte ends
+stamped_complete : (most : ℕ) (p : List ℕ) (v : ItmPacket) (says : ℕ → ℕ → Next Partial ItmPacket) → IsContinued p → length p ≤ most → says (length p) (groups p) ≡ End v →
+    Fills (λ i b. longer most i b) 0 p × (cond (nat_lt (last_of p) 128) (says (0 + length p) (value_from (λ i b. b % 128 * 128 ^ i) 0 0 p)) (Fail LongStamp) ≡ End v)
+stamped_complete most p v says h l e =
+    let m = continued_fills most 0 p h (omega arith) in
+    let z : 0 + length p ≡ length p = omega arith in
+    (m.0, taken (nat_lt (last_of p) 128) _ _ (End v) (is_below (last_of p) 128 m.1) (ap (says (0 + length p)) (groups_whole p) ∙ ap (λ (i : ℕ). says i (groups p)) z ∙ e))
+
 local_complete : (lateness : Lateness) (p : List ℕ) → IsContinued p → length p ≤ 4 → from (Payload (LocalLong lateness) 0 0) p ≡ Whole (Local lateness (groups p))
 local_complete lateness p h l =
-    let m = continued_fills 4 0 p h (omega arith) in
-    payload_complete (LocalLong lateness) 0 0 p (Local lateness (groups p)) (record {
-      fills = m.0;
-      ends = taken (nat_lt (last_of p) 128) _ _ (End (Local lateness (groups p))) (is_under_128 (last_of p) m.1) (ap (λ (i : ℕ). (let y : Next Partial ItmPacket = End (Local lateness i) in y)) (groups_whole p));
-    })
+    let m = stamped_complete 4 p (Local lateness (groups p)) (λ _ n. End (Local lateness n)) h l refl in
+    payload_complete (LocalLong lateness) 0 0 p (Local lateness (groups p)) (record { fills = m.0; ends = m.1 })
 
 first_complete : (p : List ℕ) → IsContinued p → length p ≤ 4 → from (Payload First 0 0) p ≡ Whole (first_stamp (length p) (groups p))
 first_complete p h l =
-    let m = continued_fills 4 0 p h (omega arith) in
-    let z : 0 + length p ≡ length p = omega arith in
-    payload_complete First 0 0 p (first_stamp (length p) (groups p)) (record {
-      fills = m.0;
-      ends = taken (nat_lt (last_of p) 128) _ _ (End (first_stamp (length p) (groups p))) (is_under_128 (last_of p) m.1)
-          (ap (λ (i : ℕ). (let y : Next Partial ItmPacket = End (first_stamp (0 + length p) i) in y)) (groups_whole p)
-          ∙ ap (λ (i : ℕ). (let y : Next Partial ItmPacket = End (first_stamp i (groups p)) in y)) z);
-    })
+    let m = stamped_complete 4 p (first_stamp (length p) (groups p)) (λ i n. End (first_stamp i n)) h l refl in
+    payload_complete First 0 0 p (first_stamp (length p) (groups p)) (record { fills = m.0; ends = m.1 })
 
 second_complete : (p : List ℕ) (x : ItmPacket) → IsContinued p → length p ≤ 6 → second_stamp (length p) (groups p) ≡ End x → from (Payload Second 0 0) p ≡ Whole x
 second_complete p x h l e =
-    let m = continued_fills 6 0 p h (omega arith) in
-    let z : 0 + length p ≡ length p = omega arith in
-    payload_complete Second 0 0 p x (record {
-      fills = m.0;
-      ends = taken (nat_lt (last_of p) 128) _ _ (End x) (is_under_128 (last_of p) m.1)
-          (ap (second_stamp (0 + length p)) (groups_whole p) ∙ ap (λ (i : ℕ). second_stamp i (groups p)) z ∙ e);
-    })
+    let m = stamped_complete 6 p x second_stamp h l e in
+    payload_complete Second 0 0 p x (record { fills = m.0; ends = m.1 })
 
 second_of : (n g k : ℕ) (x : ItmPacket) → n ≡ k → second_stamp k g ≡ End x → second_stamp n g ≡ End x
 second_of n g k x e h = rw e h
@@ -322,21 +291,15 @@ extension_complete : (dwt : Bool) (low : ℕ) (p : List ℕ) → low < 8 → IsE
 extension_complete dwt low [] h x =
     let c = Extended false dwt low in
     let n : low ≡ low + 8 * 0 = omega arith in
-    class_whole c [] (Extension dwt (low + 8 * 0)) (under low h) (λ e. cc) (ap (λ (i : ℕ). (let y : Walked Partial ItmPacket = Whole (Extension dwt i) in y)) n)
-  where
-    under : (n : ℕ) → n < 8 → nat_lt n 8 ≡ true
-    under n h = grind (arith, nat_tests)
+    class_whole c [] (Extension dwt (low + 8 * 0)) (is_below low 8 h) (λ e. cc) (ap (λ (i : ℕ). (let y : Walked Partial ItmPacket = Whole (Extension dwt i) in y)) n)
 extension_complete dwt low (b ∷ p) h x =
     let c = Extended true dwt low in
     let w = value_extended dwt low (b ∷ p) x in
-    class_whole c (b ∷ p) (Extension dwt (low + 8 * extended (b ∷ p))) (under low h) (λ e. cc)
+    class_whole c (b ∷ p) (Extension dwt (low + 8 * extended (b ∷ p))) (is_below low 8 h) (λ e. cc)
     (payload_complete c 0 0 (b ∷ p) (Extension dwt (low + 8 * extended (b ∷ p))) (record {
       fills = extension_fills b p x;
       ends = ap (λ (i : ℕ). (let y : Next Partial ItmPacket = End (Extension dwt (low + 8 * i)) in y)) w;
     }))
-  where
-    under : (n : ℕ) → n < 8 → nat_lt n 8 ≡ true
-    under n h = grind (arith, nat_tests)
 
 whole_of : (v w : ItmPacket) (x : Walked Partial ItmPacket) → x ≡ Whole v → v ≡ w → x ≡ Whole w
 whole_of v w x e h = e ∙ ap (λ (i : ItmPacket). (let y : Walked Partial ItmPacket = Whole i in y)) h
@@ -480,7 +443,7 @@ second_ending count value h =
       w,
       payload_complete Second count value w x (record {
         fills = m.0;
-        ends = taken (nat_lt (last_of w) 128) (second_stamp (count + length w) g) (Fail LongStamp) (End x) (is_under_128 (last_of w) m.1) (second_of (count + length w) g 6 x l refl);
+        ends = taken (nat_lt (last_of w) 128) (second_stamp (count + length w) g) (Fail LongStamp) (End x) (is_below (last_of w) 128 m.1) (second_of (count + length w) g 6 x l refl);
       }),
     )
 

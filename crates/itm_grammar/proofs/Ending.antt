@@ -1,7 +1,6 @@
 -- A packet that ends with a payload byte has its numbers in their ranges.
 use Rattle.std.proofs.Common.{◌≡◌, ℕ, zero, suc, ◌+◌, ◌*◌, ◌/◌, ◌%◌, ◌^◌, ◌<◌, Bool, true, false, cond, refl, arith}
 use Rattle.std.specs.Prelude.{nat_lt, ◌==◌}
-use Rattle.std.proofs.lemmas.Bool.Decides.{nat_tests}
 use Rattle.std.proofs.lemmas.Bool.{and_parts}
 use Rattle.itm_grammar.specs.Names.{Next}
 use Rattle.itm_grammar.specs.declared.packet.Size.{Size}
@@ -15,15 +14,13 @@ use Rattle.itm_grammar.specs.Header.{is_proper_class}
 use Rattle.itm_grammar.specs.Spelling.{byte_count}
 use Rattle.itm_grammar.specs.Proper.{IsProper}
 use Rattle.itm_grammar.specs.Rule.{rule, last, source, first_stamp, another_follows, digit, base_of, is_sound_payload, is_sound, StopsProperly}
+use Rattle.itm_grammar.proofs.Deciding.{below}
 use Rattle.itm_grammar.proofs.Fitting.{parts, more_bytes, more_groups, fits_last}
 
 -- a choice by a test
 either : (t : Bool) (x y : Next Partial ItmPacket) → StopsProperly x → StopsProperly y → StopsProperly (cond t x y)
 either true x y h k = h
 either false x y h k = k
-
-number_fits : (n : ℕ) → nat_lt n 32 ≡ true → n < 32
-number_fits n e = grind (arith, nat_tests)
 
 -- the bytes of a value fit its size
 value_fits : (size : Size) (n v b : ℕ) → b < 256 → n < byte_count size → v < 256 ^ n → v + b * 256 ^ n < 256 ^ byte_count size
@@ -58,7 +55,7 @@ last_stops Zero n v b h p s = tt
 last_stops Overflowed n v b h p s = tt
 last_stops (Source hardware number size) n v b h p s =
     let k = parts n (byte_count size) v (256 ^ n) s in
-    source_fits hardware number size (v + b * 256 ^ n) (number_fits number p) (value_fits size n v b h k.0 k.1)
+    source_fits hardware number size (v + b * 256 ^ n) (below number 32 p) (value_fits size n v b h k.0 k.1)
 last_stops (LocalShort delta) n v b h p s = tt
 last_stops (LocalLong lateness) n v b h p s = either (nat_lt b 128) _ _ (fits_last (LocalLong lateness) n v b h p s) tt
 last_stops First n v b h p s =

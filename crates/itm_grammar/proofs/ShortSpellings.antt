@@ -15,7 +15,7 @@ use Rattle.itm_grammar.specs.declared.packet.ItmPacket.TheVariants.{Sync, Overfl
 use Rattle.itm_grammar.specs.Spelling.{Spells, SpellsSource, byte_count, size_bits, late_bits, bit_of, number, groups, more_bit, IsContinued, IsExtended, extended}
 use Rattle.itm_grammar.specs.Proper.{IsProper}
 use Rattle.itm_grammar.specs.Shortest.{bytes_of, groups_of, group_count, is_short, extension_bytes, short, shortest_len, IsClear, HasShortest}
-use Rattle.itm_grammar.proofs.Deciding.{fits_within}
+use Rattle.itm_grammar.proofs.Deciding.{between, fits_within}
 
 abbrev AllBytes : List ℕ → Type 0
 AllBytes p = Each (λ b. b < 256) p
@@ -130,9 +130,7 @@ late_fits PacketLate = omega arith
 late_fits BothLate = omega arith
 
 short_is : (lateness : Lateness) (delta : ℕ) → is_short lateness delta ≡ true → (lateness ≡ Exact) × (0 < delta) × (delta < 7)
-short_is Exact delta e = let k = below delta e in (refl, k.0, k.1) where
-  below : (n : ℕ) → (nat_lt 0 n && nat_lt n 7) ≡ true → (0 < n) × (n < 7)
-  below n e = grind (arith, nat_tests)
+short_is Exact delta e = let k = between delta e in (refl, k.0, k.1)
 short_is StampLate delta e = cc
 short_is x delta e = cc
 
@@ -222,25 +220,19 @@ first_least (suc n) value change wrap h =
       least = λ r s. (let l = m.len in let e = ap length s.1 in let d = s.3 in omega arith);
     }
 
+second_with : (wide : Bool) (n value : ℕ) → suc n ≡ cond wide 6 4 → value < 128 ^ suc n → value ≡ value % 2 ^ cond wide 38 22 → Least (GlobalSecond wide value) (0xB4 ∷ groups_of (suc n) value) (2 + n)
+second_with wide n value e h k =
+    let m = groups_made n value h in
+    record {
+      spells = (groups_of (suc n) value, refl, m.continued, m.len ∙ e, k ∙ ap (λ g. g % 2 ^ cond wide 38 22) (sym m.value_is));
+      bytes = (omega arith, m.bytes);
+      len = (let l = m.len in omega arith);
+      least = λ r s. (let l = m.len in let i = ap length s.1 in let d = s.3 ∙ sym e in omega arith);
+    }
+
 second_least : (wide : Bool) (value : ℕ) → IsProper (GlobalSecond wide value) → Least (GlobalSecond wide value) (short (GlobalSecond wide value)) (cond wide 7 5)
-second_least true value h =
-    let m = groups_made 5 value (omega arith) in
-    let v = m.value_is in
-    record {
-      spells = (groups_of 6 value, refl, m.continued, m.len, rw v (omega arith));
-      bytes = (omega arith, m.bytes);
-      len = (let l = m.len in omega arith);
-      least = λ r s. (let l = m.len in let e = ap length s.1 in let d = s.3 in omega arith);
-    }
-second_least false value h =
-    let m = groups_made 3 value (omega arith) in
-    let v = m.value_is in
-    record {
-      spells = (groups_of 4 value, refl, m.continued, m.len, rw v (omega arith));
-      bytes = (omega arith, m.bytes);
-      len = (let l = m.len in omega arith);
-      least = λ r s. (let l = m.len in let e = ap length s.1 in let d = s.3 in omega arith);
-    }
+second_least true value h = second_with true 5 value refl (omega arith) (omega arith)
+second_least false value h = second_with false 3 value refl (omega arith) (omega arith)
 
 -- an extension packet
 record Extra (high : ℕ) (p : List ℕ) : Type 0 where

@@ -109,12 +109,9 @@ Spells (Local lateness delta) r =
 Spells (GlobalFirst len value change wrap) r =
     (payload : List ℕ) × (r ≡ 0x94 ∷ payload) × IsContinued payload × (length payload ≡ len) × (len ≤ 4)
     × (value < 2 ^ 26) × (groups payload ≡ value + 2 ^ 26 * bit_of change + 2 ^ 27 * bit_of wrap)
-Spells (GlobalSecond false value) r =
+Spells (GlobalSecond wide value) r =
     (payload : List ℕ) × (r ≡ 0xB4 ∷ payload) × IsContinued payload
-    × (length payload ≡ 4) × (value ≡ groups payload % 2 ^ 22)
-Spells (GlobalSecond true value) r =
-    (payload : List ℕ) × (r ≡ 0xB4 ∷ payload) × IsContinued payload
-    × (length payload ≡ 6) × (value ≡ groups payload % 2 ^ 38)
+    × (length payload ≡ (if wide then 6 else 4)) × (value ≡ groups payload % 2 ^ (if wide then 38 else 22))
 Spells (Extension dwt value) r =
     (low : ℕ) × (payload : List ℕ) × (low < 8)
     × (r ≡ (128 * more_bit payload + 16 * low + 4 * bit_of dwt + 8) ∷ payload)

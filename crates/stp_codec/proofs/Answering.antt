@@ -1,6 +1,8 @@
 -- A decoder's answer to a nibble is the grammar's, and its hunt is one for the pattern.
 use Rattle.std.proofs.Common.{◌≡◌, ◌≢◌, ℕ, List, [], ◌∷◌, ◌++◌, refl, sym, ◌∙◌, ap, subst, inl, inr, arith, Option}
 use Rattle.std.proofs.Common.{None, Some, Bool, true, false}
+use Rattle.trace_values.proofs.Decorating.{item_step}
+use Rattle.stp_codec.specs.Names.{Grows, Step}
 use Rattle.stp_codec.specs.Names.{Reason, Next, Go, End, Fail, Quiet, Item, Fault as Faulty, Mode, Aligned, Hunting}
 use Rattle.stp_codec.specs.Names.{Placed, units_of, InUnits, by_unit, Decides, Progress, with_unit, advance, progress}
 use Rattle.stp_codec.specs.Names.{Notice, shown, pattern_of, Found, Hunt, hunt_on, hunt, hunted_by, StandsIn, hunts}
@@ -14,9 +16,9 @@ use Rattle.trace_values.proofs.Standings as lemmas
 use Rattle.trace_values.proofs.HuntSteps as steps
 use Rattle.trace_values.proofs.HuntedLemmas as hunting
 use Rattle.stp_grammar.proofs.Deciding.{decided}
-use Rattle.stp_codec.specs.Reading.{pattern, packets_in, packets_of, rest_found, rest_in, IsHunt}
+use Rattle.stp_codec.specs.Reading.{pattern, packets_in, packets_of, items_at, rest_found, rest_in, IsHunt}
 use Rattle.stp_codec.specs.Answers.{AnswersNibble}
-use Rattle.stp_codec.proofs.Taking.{At, packets_with, packets_step}
+use Rattle.stp_codec.proofs.Taking.{At, packets_with, packets_step, goes, stops, fails}
 
 f_is_not_last : pattern.unit ≢ pattern.last
 f_is_not_last e = omega (arith, e)
@@ -123,30 +125,40 @@ module _ (order : Order) where
     abbrev left : List Placed
     left = rest_in order (hunts m) (n ++ b ∷ [])
 
-    pub goes_answer : (t : Partial) → Go t ≡ rule order partial b.unit → AnswersNibble order before rest b.place Quiet packets_after left
+    -- what a decoder keeps after a nibble, and what it answers to it
+    abbrev Answers : Bool → Partial → Attribution → Step StpItem → Type 0
+    Answers live' t a' answer =
+        At order m live' t a' (n ++ b ∷ []) × Grows (items_at order (hunts m) n) (items_at order (hunts m) (n ++ b ∷ [])) b.place.at answer
+        × AnswersNibble order before rest b.place answer packets_after left
+
+    pub goes_answer : (t : Partial) → Go t ≡ rule order partial b.unit → Answers live t a Quiet
     goes_answer t e =
         let x = told m live partial n b (Go t) l k e s.0 in
-        inr (x.0.0, x.0.1, packets_with order (hunts m) n b Quiet (packets_step order m live partial a n b l k (Go t) e s), x.1)
+        let g = goes order m live partial a n b l k t e s in (
+          g.0,
+          g.1,
+          inr (x.0.0, x.0.1, packets_with order (hunts m) n b Quiet (packets_step order m live partial a n b l k (Go t) e s), x.1),
+        )
 
-    -- the packets with the one that ends
-    ended : (v : StpPacket) → End v ≡ rule order partial b.unit → packets_after ≡ before ++ v ∷ []
-    ended v e = packets_with order (hunts m) n b (Item b.place.half v) (packets_step order m live partial a n b l k (End v) e s)
+    -- a packet that ends, which has this item or none
+    module _ (v : StpPacket) (a' : Attribution) (e : End v ≡ rule order partial b.unit) (keeps : (ps : List StpPacket) → Attributes a ps → Attributes a' (ps ++ v ∷ [])) where
+      ended : packets_after ≡ before ++ v ∷ []
+      ended = packets_with order (hunts m) n b (Item b.place.half v) (packets_step order m live partial a n b l k (End v) e s)
 
-    item_is : (v : StpPacket) (o : Option StpItem) → End v ≡ rule order partial b.unit → ((ps : List StpPacket) → Attributes a ps → o ≡ item_of (ps ++ v ∷ []) v) → item_of packets_after v ≡ o
-    item_is v o e c = ap (λ ps. item_of ps v) (ended v e) ∙ sym (c before s.1)
+      ends : (o : Option StpItem) → ((ps : List StpPacket) → Attributes a ps → o ≡ item_of (ps ++ v ∷ []) v) →
+          AnswersNibble order before rest b.place (item_step b.place.half o) packets_after left → Answers live Start a' (item_step b.place.half o)
+      ends o is answer = let g = stops order m live partial a n b l k v a' o e keeps is s in (g.0, g.1, answer)
 
-    pub ends_answer : (v : StpPacket) (item : StpItem) → End v ≡ rule order partial b.unit → ((ps : List StpPacket) → Attributes a ps → Some item ≡ item_of (ps ++ v ∷ []) v) →
-        AnswersNibble order before rest b.place (Item b.place.half item) packets_after left
-    ends_answer v item e c =
-        let x = told m live partial n b (End v) l k e s.0 in
-        (v, refl, x.0, ended v e, x.1, item_is v (Some item) e c)
+      pub ends_answer : (o : Option StpItem) → ((ps : List StpPacket) → Attributes a ps → o ≡ item_of (ps ++ v ∷ []) v) → Answers live Start a' (item_step b.place.half o)
+      ends_answer (Some item) is =
+          let x = told m live partial n b (End v) l k e s.0 in
+          ends (Some item) is (v, refl, x.0, ended, x.1, ap (λ ps. item_of ps v) ended ∙ sym (is before s.1))
+      ends_answer None is =
+          let x = told m live partial n b (End v) l k e s.0 in
+          ends None is (inl (v, x.0, ended, x.1, ap (λ ps. item_of ps v) ended ∙ sym (is before s.1)))
 
-    pub silent_answer : (v : StpPacket) → End v ≡ rule order partial b.unit → ((ps : List StpPacket) → Attributes a ps → None ≡ item_of (ps ++ v ∷ []) v) →
-        AnswersNibble order before rest b.place Quiet packets_after left
-    silent_answer v e c =
-        let x = told m live partial n b (End v) l k e s.0 in
-        inl (v, x.0, ended v e, x.1, item_is v None e c)
-
-    pub fails_answer : (r : Reason) → Fail r ≡ rule order partial b.unit →
-        AnswersNibble order before rest b.place (Faulty (record { at = b.place.at; half = b.place.half; reason = r })) packets_after left
-    fails_answer r e = let x = told m live partial n b (Fail r) l k e s.0 in (refl, refl, x.0.1, x.0.0)
+    pub fails_answer : (r : Reason) → Fail r ≡ rule order partial b.unit → Answers false partial a (Faulty (record { at = b.place.at; half = b.place.half; reason = r }))
+    fails_answer r e =
+        let x = told m live partial n b (Fail r) l k e s.0 in
+        let g = fails order m live partial a n b l k r e s in
+        (g.0, g.1, (refl, refl, x.0.1, x.0.0))

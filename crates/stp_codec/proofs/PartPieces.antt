@@ -12,7 +12,7 @@ use Rattle.stp_codec.specs.Wholes.{nibbles_in}
 use Rattle.stp_codec.proofs.Between.{length-nibbles}
 use Rattle.stp_codec.proofs.Passing.{sound_at}
 use Rattle.stp_codec.proofs.PacketPieces.{units_nibbles}
-use Rattle.stp_codec.proofs.Taking.{At, goes_list, goes_step}
+use Rattle.stp_codec.proofs.Taking.{At, goes}
 
 -- a state that nibbles lead to is counted
 pub inside_count : (order : Order) (s t : Partial) (bytes : List ℕ) → walk (rule order) s (nibbles_in bytes) ≡ Within t → count_of t ≡ count_of s + 2 * length bytes
@@ -39,9 +39,9 @@ module _ (order : Order) (m : Mode) (a : Attribution) (locked : is_locked m ≡ 
     by : (x : Next Partial StpPacket) → rule order s c.unit ≡ x → after x (λ r. walk (rule order) r (units_of w)) (units_of w) ≡ Within t →
         ((r : Partial) → walk (rule order) r (units_of w) ≡ Within t → At order m true r a (n ++ c ∷ []) → IsInside t (n ++ c ∷ []) ((n ++ c ∷ []) ++ w)) → IsInside t n (n ++ (c ∷ w))
     by (Go r) k f more =
-        let g = goes_step order m true s a n c refl locked r (sym k) h in
-        let p = more r f (goes_list order m true s a n c refl locked r (sym k) h) in
-        subst (IsInside t n) (append_assoc n (c ∷ []) w) (record { list = p.list; given = p.given ∙ g.given ∙ append-nil (reading n).given })
+        let g = goes order m true s a n c refl locked r (sym k) h in
+        let p = more r f g.0 in
+        subst (IsInside t n) (append_assoc n (c ∷ []) w) (record { list = p.list; given = p.given ∙ g.1.given ∙ append-nil (reading n).given })
     by (End x) k f more = absurd (none_within x t (λ r. walk (rule order) r (units_of w)) (units_of w) f)
     by (Fail r) k f more = cc
 

@@ -8,7 +8,7 @@ use Rattle.stp_codec.specs.Hunting.{Skips}
 use Rattle.stp_codec.specs.Reading.{pattern, items_at}
 use Rattle.stp_codec.specs.Wholes.{nibbles_in}
 use Rattle.stp_codec.proofs.PacketPieces.{units_nibbles}
-use Rattle.stp_codec.proofs.Taking.{At, skips_list}
+use Rattle.stp_codec.proofs.Taking.{At, skips}
 
 -- after these nibbles these are skipped too
 pub skips_on : (a b : List ℕ) (run mid after : ℕ) → Skips run a mid → Skips mid b after → Skips run (a ++ b) after
@@ -28,8 +28,8 @@ module _ (order : Order) (live : Bool) (partial : Partial) (a : Attribution) whe
       (subst (λ (i : ℕ). Hunts after i n) (let e : skipped ≡ skipped + 0 = omega arith in e)
       (subst (λ (i : ℕ). Hunts i skipped n) s k))
   nibbles_on (b ∷ w) n run skipped after s k =
-      let one = skips_list order (Hunting run skipped) live partial a n b run skipped refl
-      (run_after pattern run b.unit) refl s.0 k in
+      let one = (skips order (Hunting run skipped) live partial a n b run skipped refl
+      (run_after pattern run b.unit) refl s.0 k).0 in
       subst (λ (l : List Placed). Hunts after (skipped + length (b ∷ w)) l) (append_assoc n (b ∷ []) w)
       (subst (λ (i : ℕ). Hunts after i ((n ++ b ∷ []) ++ w))
       (let e : skipped + 1 + length w ≡ skipped + length (b ∷ w) = omega arith in e)

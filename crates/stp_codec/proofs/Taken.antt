@@ -6,13 +6,10 @@ use Rattle.std.proofs.lemmas.Bool.Decides.{nat_tests}
 use Rattle.std.proofs.lemmas.List.{take_all, length-take-le}
 use Rattle.stp_codec.specs.Names.{item_at, StpItem, Go, End, Fail, Next, Mode, Placed, units_of, nibbles_of, hunts}
 use Rattle.stp_codec.specs.Names.{is_locked, skipped_of, Order, Msn, StpPacket, Attribution, Partial, Start, IsProper}
-use Rattle.stp_codec.specs.Names.{rule, count_of, by_unit, Async, Passes}
+use Rattle.stp_codec.specs.Names.{rule, count_of, Passes}
 use Rattle.stp_grammar.proofs.Beginning.{start_never_fails}
 use Rattle.stp_grammar.proofs.Counting.{counts}
-use Rattle.stp_codec.specs.Reading.{items_in, items_at, pattern}
-use Rattle.trace_values.proofs.Modes as modes
-use Rattle.trace_values.proofs.Standings.{none_of}
-use Rattle.stp_grammar.proofs.Counting.{counts_placed}
+use Rattle.stp_codec.specs.Reading.{items_in}
 use Rattle.stp_codec.specs.Wholes.{nibbles_in, reached, Fronts, left_after, left_by, begun, Leaves, between}
 use Rattle.stp_codec.specs.Wholes.{Ends}
 use Rattle.stp_codec.specs.declared.flat.TheConstants.{WINDOW}
@@ -136,13 +133,6 @@ module _ (d e : StpDecoder) (s : Settles d e) where
   pub settles_idle : Idles d e
   settles_idle = (λ u h. to_stands e s.none (nibbles_of u) (settles_reads u h), held_read e s.none ∙ settles_read, settles_skipped)
 
--- where it is live the reading has no fault
-pub sound_at : (d : StpDecoder) (n : List Placed) → is_live d ≡ true → StandsWith d (partial_of d) n →
-    (items_at d.order (hunts d.mode) n).fault ≡ None
-sound_at d n l h = none_of (items_at d.order (hunts d.mode) n).fault (sym l
-    ∙ (modes.shows pattern Async (by_unit (rule d.order)) Start count_of refl (counts_placed d.order) d.mode d.live
-    (partial_of d) n h.0).live_is)
-
 -- bytes that were copied
 module _ (d e : StpDecoder) (ahead : List ℕ) (c : Copies d e ahead) where
   copies_partial : partial_of e ≡ partial_of d
@@ -152,10 +142,10 @@ module _ (d e : StpDecoder) (ahead : List ℕ) (c : Copies d e ahead) where
       ∙ ap (λ (f : ℕ). reached d.order (begun d.order f d.partial) (nibbles_in (waiting_in e))) c.first
       ∙ ap (λ (l : List ℕ). reached d.order (begun_of d) (nibbles_in l)) c.bytes
 
-  pub copies_same : (order_of e ≡ order_of d) × (is_hunter e ≡ is_hunter d)
+  copies_same : (order_of e ≡ order_of d) × (is_hunter e ≡ is_hunter d)
   copies_same = (c.order, ap (λ (m : Mode). hunts m) c.mode)
 
-  pub copies_idle : Idles d e
+  copies_idle : Idles d e
   copies_idle = (
     λ u h. stands_as d e (partial_of d) (partial_of e) c.order c.mode c.live c.attribution copies_partial (nibbles_of u) h,
     ap (λ (p : Partial). count_of p) copies_partial,
@@ -193,10 +183,14 @@ module _ (d e f : StpDecoder) (same : (order_of e ≡ order_of d) × (is_hunter 
   idle_parts ahead count None t = tt
   idle_parts ahead count (Some taken) t = idle_part ahead count taken t
 
-  pub idle_finds : (ahead : List ℕ) (count : ℕ) (found : Found PacketParts) → Finds e f ahead count found → Finds d f ahead count found
+  idle_finds : (ahead : List ℕ) (count : ℕ) (found : Found PacketParts) → Finds e f ahead count found → Finds d f ahead count found
   idle_finds ahead count (EndsIn parts) h = (h.0, h.1, h.2, idle_idle h.3)
   idle_finds ahead count Waits h = idle_part ahead count (record { bytes = count; half = 1; item = None }) h
   idle_finds ahead count Unknown h = idle_idle h
+
+-- and after bytes were copied
+pub copies_finds : (d e f : StpDecoder) (ahead : List ℕ) (count : ℕ) (found : Found PacketParts) → Copies d e ahead → Finds e f ahead count found → Finds d f ahead count found
+copies_finds d e f ahead count found c h = idle_finds d e f (copies_same d e ahead c) (copies_idle d e ahead c) ahead count found h
 
 -- a packet was found, and nothing was taken
 pub finds_packet : (d : StpDecoder) (ahead : List ℕ) (count : ℕ) (x : PacketParts) → x.number < 35 → x.nibbles ≤ 2 * count → Finishes d ahead x.nibbles (packet_of x) → Finds d d ahead count (EndsIn x)

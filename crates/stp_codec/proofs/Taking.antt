@@ -16,7 +16,7 @@ use Rattle.stp_grammar.proofs.Attributing.{stands_with}
 use Rattle.stp_codec.specs.Reading.{pattern, packets_in, packets_of, items_at}
 
 pub async_kept : (a : Attribution) (ps : List StpPacket) → Attributes a ps → Attributes a (ps ++ Async ∷ [])
-async_kept a ps k = stands_with a a ps Async tt k refl refl refl refl
+async_kept a ps k = stands_with a a ps Async tt k (record { version = refl; master = refl; channel = refl; last = refl })
 
 module _ (order : Order) where
   abbrev pub Reads : Mode → Bool → Partial → List Placed → Type 0
@@ -40,33 +40,30 @@ module _ (order : Order) where
 
     -- in a hunt
     module _ (run skipped : ℕ) (e : m ≡ Hunting run skipped) where
-      pub locks_step : (b.unit == 0 && run == 21) ≡ true → At m live partial a u →
-          Grows (items_at order was u) (items_at order was (u ++ b ∷ [])) b.place.at (StepLocked (skipped - 21) b.place.half AsyncItem)
-      locks_step f s =
-          decorating.grows attribute [] (packets_in order was u) (packets_in order was (u ++ b ∷ [])) b.place.at (StepLocked (skipped - 21) b.place.half Async) (AsyncItem, refl)
-          (laws.locks-step pattern Async (by_unit (rule order)) Start m run skipped b live partial u e f s.0)
-
-      pub locks_list : (b.unit == 0 && run == 21) ≡ true → At m live partial a u → At (Locked (skipped - 21)) live Start a (u ++ b ∷ [])
-      locks_list f s =
+      pub locks : (b.unit == 0 && run == 21) ≡ true → At m live partial a u →
+          At (Locked (skipped - 21)) live Start a (u ++ b ∷ []) × Grows (items_at order was u) (items_at order was (u ++ b ∷ [])) b.place.at (StepLocked (skipped - 21) b.place.half AsyncItem)
+      locks f s =
           let g = laws.locks-step pattern Async (by_unit (rule order)) Start m run skipped b live partial u e f s.0 in
           let h : hunts m ≡ true = ap hunts e in
           let t : Reads (Hunting run skipped) live partial u = subst (λ (x : Mode). Reads x live partial u) e s.0 in (
-            subst (λ (p : Partial). Reads (Locked (skipped - 21)) live p (u ++ b ∷ [])) t.2 (laws.locks-list pattern Async (by_unit (rule order)) Start m run skipped b live partial u e f s.0),
-            subst (λ (x : Bool). Attributes a (packets_of order x (u ++ b ∷ []))) h
-                (subst (Attributes a) (sym (packets_with was u b (StepLocked (skipped - 21) b.place.half Async) g)) (async_kept a (packets_of order was u) s.1)),
+            (
+              subst (λ (p : Partial). Reads (Locked (skipped - 21)) live p (u ++ b ∷ [])) t.2 (laws.locks-list pattern Async (by_unit (rule order)) Start m run skipped b live partial u e f s.0),
+              subst (λ (x : Bool). Attributes a (packets_of order x (u ++ b ∷ []))) h
+                  (subst (Attributes a) (sym (packets_with was u b (StepLocked (skipped - 21) b.place.half Async) g)) (async_kept a (packets_of order was u) s.1)),
+            ),
+            decorating.grows attribute [] (packets_in order was u) (packets_in order was (u ++ b ∷ [])) b.place.at (StepLocked (skipped - 21) b.place.half Async) (AsyncItem, refl) g,
           )
 
-      pub skips_step : (b.unit == 0 && run == 21) ≡ false → At m live partial a u → Grows (items_at order was u) (items_at order was (u ++ b ∷ [])) b.place.at Skipping
-      skips_step f s =
-          decorating.grows attribute [] (packets_in order was u) (packets_in order was (u ++ b ∷ [])) b.place.at Skipping tt
-          (laws.skips-step pattern Async (by_unit (rule order)) Start m run skipped b live partial u e f s.0)
-
-      pub skips_list : (run' : ℕ) → run' ≡ run_after pattern run b.unit → (b.unit == 0 && run == 21) ≡ false → At m live partial a u → At (Hunting run' (skipped + 1)) live partial a (u ++ b ∷ [])
-      skips_list run' r f s =
+      pub skips : (run' : ℕ) → run' ≡ run_after pattern run b.unit → (b.unit == 0 && run == 21) ≡ false → At m live partial a u →
+          At (Hunting run' (skipped + 1)) live partial a (u ++ b ∷ []) × Grows (items_at order was u) (items_at order was (u ++ b ∷ [])) b.place.at Skipping
+      skips run' r f s =
           let g = laws.skips-step pattern Async (by_unit (rule order)) Start m run skipped b live partial u e f s.0 in
           let h : hunts m ≡ true = ap hunts e in (
-            subst (λ (n : ℕ). Reads (Hunting n (skipped + 1)) live partial (u ++ b ∷ [])) (sym r) (laws.skips-list pattern Async (by_unit (rule order)) Start m run skipped b live partial u e f s.0),
-            subst (λ (x : Bool). Attributes a (packets_of order x (u ++ b ∷ []))) h (same_packets was u b Skipping a g refl s.1),
+            (
+              subst (λ (n : ℕ). Reads (Hunting n (skipped + 1)) live partial (u ++ b ∷ [])) (sym r) (laws.skips-list pattern Async (by_unit (rule order)) Start m run skipped b live partial u e f s.0),
+              subst (λ (x : Bool). Attributes a (packets_of order x (u ++ b ∷ []))) h (same_packets was u b Skipping a g refl s.1),
+            ),
+            decorating.grows attribute [] (packets_in order was u) (packets_in order was (u ++ b ∷ [])) b.place.at Skipping tt g,
           )
 
     -- in a reading
@@ -83,30 +80,23 @@ module _ (order : Order) where
           Grows (items_at order was u) (items_at order was (u ++ b ∷ [])) b.place.at (step_with attribute (packets_of order was u) s)
       items_step s c g = decorating.grows attribute [] (packets_in order was u) (packets_in order was (u ++ b ∷ [])) b.place.at s c g
 
-      pub goes_list : (t : Partial) → Go t ≡ rule order partial b.unit → At m live partial a u → At m live t a (u ++ b ∷ [])
-      goes_list t e s = (stands_on (Go t) live t e l refl s, same_packets was u b Quiet a (packets_step (Go t) e s) refl s.1)
+      pub goes : (t : Partial) → Go t ≡ rule order partial b.unit → At m live partial a u → At m live t a (u ++ b ∷ []) × Grows (items_at order was u) (items_at order was (u ++ b ∷ [])) b.place.at Quiet
+      goes t e s =
+          let g = packets_step (Go t) e s in ((stands_on (Go t) live t e l refl s, same_packets was u b Quiet a g refl s.1), items_step Quiet tt g)
 
-      pub goes_step : (t : Partial) → Go t ≡ rule order partial b.unit → At m live partial a u → Grows (items_at order was u) (items_at order was (u ++ b ∷ [])) b.place.at Quiet
-      goes_step t e s = items_step Quiet tt (packets_step (Go t) e s)
+      pub stops : (v : StpPacket) (a' : Attribution) (o : Option StpItem) → End v ≡ rule order partial b.unit → ((ps : List StpPacket) → Attributes a ps → Attributes a' (ps ++ v ∷ [])) →
+          ((ps : List StpPacket) → Attributes a ps → o ≡ item_of (ps ++ v ∷ []) v) → At m live partial a u →
+          At m live Start a' (u ++ b ∷ []) × Grows (items_at order was u) (items_at order was (u ++ b ∷ [])) b.place.at (item_step b.place.half o)
+      stops v a' o e keeps is s =
+          let g = packets_step (End v) e s in (
+            (stands_on (End v) live Start e l refl s, subst (Attributes a') (sym (packets_with was u b (Item b.place.half v) g)) (keeps (packets_of order was u) s.1)),
+            subst (λ (x : Option StpItem). Grows (items_at order was u) (items_at order was (u ++ b ∷ [])) b.place.at (item_step b.place.half x)) (sym (is (packets_of order was u) s.1))
+                (items_step (Item b.place.half v) tt g),
+          )
 
-      pub stops_list : (v : StpPacket) (a' : Attribution) → End v ≡ rule order partial b.unit → ((ps : List StpPacket) → Attributes a ps → Attributes a' (ps ++ v ∷ [])) → At m live partial a u → At m live Start a' (u ++ b ∷ [])
-      stops_list v a' e c s = (
-        stands_on (End v) live Start e l refl s,
-        subst (Attributes a') (sym (packets_with was u b (Item b.place.half v) (packets_step (End v) e s))) (c (packets_of order was u) s.1),
-      )
-
-      pub stops_step : (v : StpPacket) (o : Option StpItem) → End v ≡ rule order partial b.unit → ((ps : List StpPacket) → Attributes a ps → o ≡ item_of (ps ++ v ∷ []) v) → At m live partial a u →
-          Grows (items_at order was u) (items_at order was (u ++ b ∷ [])) b.place.at (item_step b.place.half o)
-      stops_step v o e c s =
-          subst (λ (x : Option StpItem). Grows (items_at order was u) (items_at order was (u ++ b ∷ [])) b.place.at (item_step b.place.half x)) (sym (c (packets_of order was u) s.1))
-          (items_step (Item b.place.half v) tt (packets_step (End v) e s))
-
-      pub fails_list : (r : Reason) → Fail r ≡ rule order partial b.unit → At m live partial a u → At m false partial a (u ++ b ∷ [])
-      fails_list r e s = (
-        stands_on (Fail r) false partial e refl refl s,
-        same_packets was u b (Faulty (record { at = b.place.at; half = b.place.half; reason = r })) a (packets_step (Fail r) e s) refl s.1,
-      )
-
-      pub fails_step : (r : Reason) → Fail r ≡ rule order partial b.unit → At m live partial a u →
-          Grows (items_at order was u) (items_at order was (u ++ b ∷ [])) b.place.at (Faulty (record { at = b.place.at; half = b.place.half; reason = r }))
-      fails_step r e s = items_step (Faulty (record { at = b.place.at; half = b.place.half; reason = r })) tt (packets_step (Fail r) e s)
+      pub fails : (r : Reason) → Fail r ≡ rule order partial b.unit → At m live partial a u →
+          At m false partial a (u ++ b ∷ []) × Grows (items_at order was u) (items_at order was (u ++ b ∷ [])) b.place.at (Faulty (record { at = b.place.at; half = b.place.half; reason = r }))
+      fails r e s =
+          let g = packets_step (Fail r) e s in
+          let faulty : Step StpPacket = Faulty (record { at = b.place.at; half = b.place.half; reason = r }) in
+          ((stands_on (Fail r) false partial e refl refl s, same_packets was u b faulty a g refl s.1), items_step faulty tt g)

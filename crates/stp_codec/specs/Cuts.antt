@@ -1,5 +1,5 @@
 -- Packets of which the bytes at hand are only a part.
-use Rattle.std.specs.Prelude.{◌≡◌, ℕ, ◌*◌, ◌<◌, ◌≤◌, List, [], length, true, ◌==◌, if◌then◌else◌}
+use Rattle.std.specs.Prelude.{◌≡◌, ℕ, ◌*◌, ◌<◌, ◌≤◌, List, [], length, true, ◌==◌, if◌then◌else◌, Option, IfSome}
 use Rattle.stp_codec.specs.Names.{Next, Go, End, Within, after, walk, Order, Row, StpPacket, Partial, Payload, line_of}
 use Rattle.stp_codec.specs.Names.{IsProper, rule, after_payload, is_sound}
 use Rattle.stp_codec.specs.Wholes.{nibbles_in, between}
@@ -21,6 +21,11 @@ CutsInto order s bytes (Inside t) = Leads order s (nibbles_in bytes) (Go t)
 CutsInto order s bytes (Ended nibbles packet) =
     (0 < nibbles) × (nibbles ≤ 2 * length bytes)
     × Leads order s (between (nibbles_in bytes) 0 nibbles) (End packet)
+
+-- where nibbles at the front of these bytes lead to this, they are so cut
+abbrev pub CutsFrom : Order → List ℕ → ℕ → Next Partial StpPacket → Option Cut → Type 0
+CutsFrom order bytes start next result =
+    (s : Partial) → Leads order s (between (nibbles_in bytes) 0 start) next → IfSome result (CutsInto order s bytes)
 
 -- the numbers of its packet, or of what is unfinished, are in their ranges
 abbrev pub IsProperCut : Cut → Type 0

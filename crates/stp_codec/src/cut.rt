@@ -5,8 +5,7 @@
 ghost use Rattle.std.specs.Prelude.{◌≡◌, ◌+◌, ◌*◌, ◌^◌, ◌<◌, ◌≤◌, true, length, IfSome};
 ghost use Rattle.stp_codec.specs.Names.{Go, Start, Second, Third, Run, Size, Word, line_of, row_at, is_sound, count_of};
 ghost use Rattle.stp_codec.specs.Names.{begin, COUNT_ROOM};
-ghost use Rattle.stp_codec.specs.Wholes.{nibbles_in, between};
-ghost use Rattle.stp_codec.specs.Cuts.{Leads, CutsInto, IsProperCut, payload_from};
+ghost use Rattle.stp_codec.specs.Cuts.{CutsFrom, CutsInto, IsProperCut, payload_from};
 
 use crate::numbers::{nibble_of, number_from};
 use stp_grammar::opcode::{Head, opcode_of, payload_at, row_at, stamped_at};
@@ -53,9 +52,7 @@ fn cut_word(
 ) -> Option<Cut>
     requires sound { is_sound (Word row payload size count word) ≡ true }
     requires there { start ≤ 2 * length bytes.now }
-    ensures cuts { (s : Partial) →
-        Leads order s (between (nibbles_in bytes.now) 0 start) (Go (Word row payload size count word)) →
-        IfSome result (CutsInto order s bytes.now) }
+    ensures cuts { CutsFrom order bytes.now start (Go (Word row payload size count word)) result }
     ensures proper { IfSome result IsProperCut }
 {
     let wanted = word_nibbles(size) - count;
@@ -87,8 +84,7 @@ fn cut_word(
 fn cut_size(order: Order, row: Row, payload: u64, bytes: &[u8], start: usize) -> Option<Cut>
     requires fits { payload < 16 ^ (line_of row).payload }
     requires there { start ≤ 2 * length bytes.now }
-    ensures cuts { (s : Partial) → Leads order s (between (nibbles_in bytes.now) 0 start) (Go (Size row payload)) →
-        IfSome result (CutsInto order s bytes.now) }
+    ensures cuts { CutsFrom order bytes.now start (Go (Size row payload)) result }
     ensures proper { IfSome result IsProperCut }
 {
     if start >= 2 * bytes.len() {
@@ -128,9 +124,7 @@ fn cut_payload(
     requires fits { value < 16 ^ count }
     requires some { count ≡ most → 0 < start }
     requires there { start ≤ 2 * length bytes.now }
-    ensures cuts { (s : Partial) →
-        Leads order s (between (nibbles_in bytes.now) 0 start) (payload_from row count value) →
-        IfSome result (CutsInto order s bytes.now) }
+    ensures cuts { CutsFrom order bytes.now start (payload_from row count value) result }
     ensures proper { IfSome result IsProperCut }
 {
     let wanted = most - count;
@@ -158,8 +152,7 @@ fn cut_payload(
 fn cut_opcode(order: Order, number: u8, bytes: &[u8], start: usize) -> Option<Cut>
     requires number { number < 35 }
     requires there { (0 < start) × (start ≤ 2 * length bytes.now) }
-    ensures cuts { (s : Partial) → Leads order s (between (nibbles_in bytes.now) 0 start) (begin (row_at number)) →
-        IfSome result (CutsInto order s bytes.now) }
+    ensures cuts { CutsFrom order bytes.now start (begin (row_at number)) result }
     ensures proper { IfSome result IsProperCut }
 {
     cut_payload(
@@ -180,9 +173,7 @@ fn cut_run(before: u64, bytes: &[u8], start: usize) -> Option<Cut>
     requires some { 2 ≤ before }
     requires room { before + 2 * length bytes.now ≤ COUNT_ROOM + start }
     requires there { start ≤ 2 * length bytes.now }
-    ensures cuts { (order : Order) (s : Partial) →
-        Leads order s (between (nibbles_in bytes.now) 0 start) (Go (Run before)) →
-        IfSome result (CutsInto order s bytes.now) }
+    ensures cuts { (order : Order) → CutsFrom order bytes.now start (Go (Run before)) result }
     ensures proper { IfSome result IsProperCut }
 {
     let mut count = before;
@@ -205,8 +196,7 @@ fn cut_run(before: u64, bytes: &[u8], start: usize) -> Option<Cut>
 #[inline(always)]
 fn cut_third(order: Order, bytes: &[u8], start: usize) -> Option<Cut>
     requires there { start ≤ 2 * length bytes.now }
-    ensures cuts { (s : Partial) → Leads order s (between (nibbles_in bytes.now) 0 start) (Go Third) →
-        IfSome result (CutsInto order s bytes.now) }
+    ensures cuts { CutsFrom order bytes.now start (Go Third) result }
     ensures proper { IfSome result IsProperCut }
 {
     if start >= 2 * bytes.len() {
@@ -223,8 +213,7 @@ fn cut_third(order: Order, bytes: &[u8], start: usize) -> Option<Cut>
 fn cut_second(order: Order, bytes: &[u8], start: usize) -> Option<Cut>
     requires room { 1 + 2 * length bytes.now ≤ COUNT_ROOM + start }
     requires there { start ≤ 2 * length bytes.now }
-    ensures cuts { (s : Partial) → Leads order s (between (nibbles_in bytes.now) 0 start) (Go Second) →
-        IfSome result (CutsInto order s bytes.now) }
+    ensures cuts { CutsFrom order bytes.now start (Go Second) result }
     ensures proper { IfSome result IsProperCut }
 {
     if start >= 2 * bytes.len() {

@@ -1,5 +1,5 @@
 -- One more packet since the others.
-use Rattle.std.proofs.Common.{◌≡◌, ℕ, ◌+◌, ◌*◌, ◌/◌, ◌%◌, ◌<◌, List, [], ◌∷◌, ◌++◌, refl, sym, ◌∙◌, ap, arith, Bool, true, false, cond}
+use Rattle.std.proofs.Common.{◌≡◌, ℕ, ◌+◌, ◌*◌, ◌/◌, ◌%◌, ◌<◌, List, [], ◌∷◌, ◌++◌, refl, sym, ◌∙◌, ap, arith, subst, Bool, true, false, cond}
 use Rattle.std.specs.Prelude.{◌||◌, Option, None, Some, unwrap_or, option_map}
 use Rattle.std.specs.Option.{is_some, option_or}
 use Rattle.std.specs.List.{list_any, after_last, filter_map, cons_option}
@@ -16,7 +16,7 @@ use Rattle.stp_grammar.specs.declared.attribution.Attribution.{Attribution}
 use Rattle.stp_grammar.specs.Attributed.{Stands, kept_place}
 use Rattle.stp_grammar.specs.Proper.{IsProper}
 use Rattle.stp_grammar.specs.Attribution.{version_in, master8_in, master16_in, channel8_in, channel16_in, last_given, begins_master, begins_channel, number_by, number_of, version_of, master_of, channel_of, stamp_in, keeps_word, last_word_of, place_of, stamp_by, stamp_of}
-use Rattle.stp_grammar.specs.NextState.{next_number, next_version, next_master, next_channel, word_with_stamp, next_last}
+use Rattle.stp_grammar.specs.NextState.{next_number, next_version, next_master, next_channel, word_with_stamp, next_last, Keeps}
 
 any_found : (test : StpPacket → Bool) (ps : List StpPacket) (p : StpPacket) → test p ≡ true → list_any test (ps ++ p ∷ []) ≡ true
 any_found test ps p e = list_any-append test ps (p ∷ []) ∙ ap (λ t. list_any test ps || (t || false)) e ∙ by (list_any test ps) where
@@ -163,15 +163,17 @@ pub stands_none : (kept : Attribution) → kept.version ≡ None → kept.master
 stands_none kept e f g h = record { version = e ∙ sym none_known.0; master = f ∙ sym none_known.1; channel = g ∙ sym none_known.2; last = h ∙ sym no_word }
 
 -- after a packet, what is kept is what it makes of it
-pub stands_with : (old new : Attribution) (ps : List StpPacket) (p : StpPacket) → IsProper p → Stands old ps →
-    new.version ≡ next_version old.version p → new.master ≡ next_master old.master p → new.channel ≡ next_channel old.channel p → new.last ≡ next_last old.version old.last p →
-    Stands new (ps ++ p ∷ [])
-stands_with old new ps p h s e f g i = record {
-  version = e ∙ ap (λ o. next_version o p) s.version ∙ sym (version_more ps p);
-  master = f ∙ ap (λ o. next_master o p) s.master ∙ sym (master_more ps p h);
-  channel = g ∙ ap (λ o. next_channel o p) s.channel ∙ sym (channel_more ps p h);
-  last = i ∙ ap (λ o. next_last o old.last p) s.version ∙ ap (λ n. next_last (version_of ps) n p) s.last ∙ sym (last_more ps p h);
+pub stands_with : (old new : Attribution) (ps : List StpPacket) (p : StpPacket) → IsProper p → Stands old ps → Keeps old new p → Stands new (ps ++ p ∷ [])
+stands_with old new ps p h s k = record {
+  version = k.version ∙ ap (λ o. next_version o p) s.version ∙ sym (version_more ps p);
+  master = k.master ∙ ap (λ o. next_master o p) s.master ∙ sym (master_more ps p h);
+  channel = k.channel ∙ ap (λ o. next_channel o p) s.channel ∙ sym (channel_more ps p h);
+  last = k.last ∙ ap (λ o. next_last o old.last p) s.version ∙ ap (λ n. next_last (version_of ps) n p) s.last ∙ sym (last_more ps p h);
 }
+
+-- and after one that is this one
+pub stands_as : (old new : Attribution) (ps : List StpPacket) (q p : StpPacket) → q ≡ p → IsProper q → Stands old ps → Keeps old new p → Stands new (ps ++ q ∷ [])
+stands_as old new ps q p e h s k = subst (λ z. Stands new (ps ++ z ∷ [])) (sym e) (stands_with old new ps p (subst IsProper e h) s k)
 
 -- the place and the timestamp that it tells
 pub place_is : (kept : Attribution) (ps : List StpPacket) → Stands kept ps → kept_place kept ≡ place_of ps

@@ -1,8 +1,9 @@
 -- What version, master, channel and last word become with one more packet (this project's profile).
-use Rattle.std.specs.Prelude.{ℕ, ◌+◌, ◌*◌, ◌/◌, Bool, Option, None, Some, option_map, if◌then◌else◌}
+use Rattle.std.specs.Prelude.{◌≡◌, ℕ, ◌+◌, ◌*◌, ◌/◌, Bool, Option, None, Some, option_map, if◌then◌else◌}
 use Rattle.std.specs.Option.{option_or}
 use Rattle.stp_grammar.specs.Names.{SizedWord, next_word}
 use Rattle.stp_grammar.specs.declared.packet.StpPacket.{StpPacket}
+use Rattle.stp_grammar.specs.declared.attribution.Attribution.{Attribution}
 use Rattle.stp_grammar.specs.Attribution.{version_in, master8_in, master16_in, channel8_in, channel16_in, stamp_in}
 use Rattle.stp_grammar.specs.Attribution.{begins_master, begins_channel, keeps_word}
 
@@ -32,3 +33,12 @@ word_with_stamp keeps old (Some stamp) = if keeps then next_word old stamp else 
 -- VERSION makes the last word 0
 abbrev pub next_last : Option ℕ → ℕ → StpPacket → ℕ
 next_last version old p = if begins_master p then 0 else word_with_stamp (keeps_word version) old (stamp_in p)
+
+-- what is kept after one more packet, by what was kept before it
+abbrev pub Keeps : Attribution → Attribution → StpPacket → Type 0
+Keeps old new packet = record {
+  version : new.version ≡ next_version old.version packet;
+  master : new.master ≡ next_master old.master packet;
+  channel : new.channel ≡ next_channel old.channel packet;
+  last : new.last ≡ next_last old.version old.last packet;
+}

@@ -107,14 +107,8 @@ is_sound (Word row payload size count word) =
     nat_lt payload (16 ^ (line_of row).payload)
     && (nat_lt size 15 && (nat_lt count (nibble_count size) && nat_lt word (16 ^ count)))
 
--- where a packet goes on, it does so in such a state
+-- where a packet goes on, it does so in such a state, and where it ends, its numbers are in their ranges
 abbrev pub IsSoundNext : Next Partial StpPacket → Type 0
 IsSoundNext (Go partial) = is_sound partial ≡ true
-IsSoundNext (End packet) = Unit {0}
+IsSoundNext (End packet) = IsProper packet
 IsSoundNext (Fail e) = Unit {0}
-
--- where it ends, its numbers are in their ranges
-abbrev pub StopsProperly : Next Partial StpPacket → Type 0
-StopsProperly (Go partial) = Unit {0}
-StopsProperly (End packet) = IsProper packet
-StopsProperly (Fail e) = Unit {0}

@@ -76,7 +76,7 @@ impl Attribution {
     ghost use Rattle.stp_grammar.specs.declared.packet.Row.TheVariants.{Null};
     ghost use Rattle.stp_grammar.specs.Proper.{IsProper};
     ghost use Rattle.stp_grammar.specs.Attribution.{item_of, stamp_by, version_of, place_of, last_word_of};
-    ghost use Rattle.stp_grammar.specs.NextState.{next_version, next_master, next_channel, next_last};
+    ghost use Rattle.stp_grammar.specs.NextState.{Keeps};
     ghost use Rattle.stp_grammar.specs.Attributed.{Stands, kept_version, kept_place, kept_word};
     ghost use Rattle.stp_grammar.specs.Said.{packet_at, said_item, IsProperSaid};
     ghost use Rattle.stp_grammar.specs.declared.item.Stamp.TheVariants.{None as NoStamp};
@@ -154,10 +154,7 @@ impl Attribution {
     #[inline(always)]
     fn note(&mut self, row: Row, payload: u64)
         requires fits { payload < 16 ^ (line_of row).payload }
-        ensures version { self.new.version ≡ next_version self.old.version (Plain row payload) }
-        ensures master { self.new.master ≡ next_master self.old.master (Plain row payload) }
-        ensures channel { self.new.channel ≡ next_channel self.old.channel (Plain row payload) }
-        ensures last { self.new.last ≡ next_last self.old.version self.old.last (Plain row payload) }
+        ensures { Keeps self.old self.new (Plain row payload) }
     {
         match row {
             Row::Version => *self = Attribution::after_version(payload as u8),
@@ -173,10 +170,7 @@ impl Attribution {
     #[inline(always)]
     fn stamp(&mut self, row: Row, payload: u64, size: u8, word: u64) -> Stamp
         requires fits { WordFits size word }
-        ensures version { self.new.version ≡ next_version self.old.version (Stamped row payload size word) }
-        ensures master { self.new.master ≡ next_master self.old.master (Stamped row payload size word) }
-        ensures channel { self.new.channel ≡ next_channel self.old.channel (Stamped row payload size word) }
-        ensures last { self.new.last ≡ next_last self.old.version self.old.last (Stamped row payload size word) }
+        ensures kept { Keeps self.old self.new (Stamped row payload size word) }
         ensures stamp { result ≡ stamp_by self.new.version self.new.last size word }
         ensures fits { IsProperStamp result }
     {
@@ -226,10 +220,7 @@ impl Attribution {
     fn note_at(&mut self, number: u8, payload: u64)
         requires number { number < 35 }
         requires fits { payload < 16 ^ (line_of (row_at number)).payload }
-        ensures version { self.new.version ≡ next_version self.old.version (Plain (row_at number) payload) }
-        ensures master { self.new.master ≡ next_master self.old.master (Plain (row_at number) payload) }
-        ensures channel { self.new.channel ≡ next_channel self.old.channel (Plain (row_at number) payload) }
-        ensures last { self.new.last ≡ next_last self.old.version self.old.last (Plain (row_at number) payload) }
+        ensures { Keeps self.old self.new (Plain (row_at number) payload) }
     {
         if tells_at(number) {
             self.note(row_at(number), payload);

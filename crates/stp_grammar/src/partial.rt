@@ -8,7 +8,7 @@ ghost use Rattle.stp_grammar.specs.Names.{nibble_count};
 ghost use Rattle.trace_values.specs.declared.limits.TheConstants.{NIBBLE_ROOM};
 ghost use Rattle.stp_grammar.specs.Rule.{rule, begin, after_payload, opened};
 ghost use Rattle.stp_grammar.specs.Rule.{run_with, payload_with, size_with};
-ghost use Rattle.stp_grammar.specs.Rule.{word_with, is_sound, IsSoundNext, StopsProperly, count_of};
+ghost use Rattle.stp_grammar.specs.Rule.{word_with, is_sound, IsSoundNext, count_of};
 ghost use Rattle.stp_grammar.specs.Rule.{held_after};
 
 use crate::nibble::number_with;
@@ -55,7 +55,6 @@ fn after_payload(row: Row, payload: u64) -> Next<Partial, StpPacket>
     requires fits { payload < 16 ^ (line_of row).payload }
     ensures next { result ≡ after_payload row payload }
     ensures sound { IsSoundNext result }
-    ensures proper { StopsProperly result }
 {
     if row.is_stamped() {
         Next::Go(Partial::Size { row, payload })
@@ -69,7 +68,6 @@ fn after_payload(row: Row, payload: u64) -> Next<Partial, StpPacket>
 fn begin(row: Row) -> Next<Partial, StpPacket>
     ensures next { result ≡ begin row }
     ensures sound { IsSoundNext result }
-    ensures proper { StopsProperly result }
 {
     if row.payload_nibbles() == 0 {
         after_payload(row, 0)
@@ -89,7 +87,6 @@ fn opened(head: Head, front: Partial) -> Next<Partial, StpPacket>
     requires sound { is_sound front ≡ true }
     ensures next { (opening : Opening) → head ≡ head_of opening → result ≡ opened opening front }
     ensures sound { IsSoundNext result }
-    ensures proper { StopsProperly result }
 {
     match head {
         Head::Whole(number) => begin(row_at(number)),
@@ -104,7 +101,6 @@ fn first(nibble: u8) -> Next<Partial, StpPacket>
     requires { nibble < 16 }
     ensures next { result ≡ rule Msn Start nibble }
     ensures sound { IsSoundNext result }
-    ensures proper { StopsProperly result }
 {
     opened(opcode_of(nibble, None, None), Partial::Second)
 }
@@ -115,7 +111,6 @@ fn second(nibble: u8) -> Next<Partial, StpPacket>
     requires { nibble < 16 }
     ensures next { result ≡ rule Msn Second nibble }
     ensures sound { IsSoundNext result }
-    ensures proper { StopsProperly result }
 {
     if nibble == 15 {
         Next::Go(Partial::Run(2))
@@ -130,7 +125,6 @@ fn third(nibble: u8) -> Next<Partial, StpPacket>
     requires { nibble < 16 }
     ensures next { result ≡ rule Msn Third nibble }
     ensures sound { IsSoundNext result }
-    ensures proper { StopsProperly result }
 {
     opened(opcode_of(15, Some(0), Some(nibble)), Partial::Third)
 }
@@ -142,7 +136,6 @@ fn run_with(count: u64, nibble: u8) -> Next<Partial, StpPacket>
     requires room { count ≤ NIBBLE_ROOM }
     ensures next { result ≡ run_with count nibble }
     ensures sound { IsSoundNext result }
-    ensures proper { StopsProperly result }
 {
     if nibble == 15 {
         Next::Go(Partial::Run(count + 1))
@@ -160,7 +153,6 @@ fn payload_with(row: Row, count: u8, value: u64) -> Next<Partial, StpPacket>
     requires fits { value < 16 ^ (count + 1) }
     ensures next { result ≡ payload_with row count value }
     ensures sound { IsSoundNext result }
-    ensures proper { StopsProperly result }
 {
     if count + 1 == row.payload_nibbles() {
         after_payload(row, value)
@@ -179,7 +171,6 @@ fn size_with(row: Row, payload: u64, size: u8) -> Next<Partial, StpPacket>
     requires fits { payload < 16 ^ (line_of row).payload }
     ensures next { result ≡ size_with row payload size }
     ensures sound { IsSoundNext result }
-    ensures proper { StopsProperly result }
 {
     match size {
         0 => Next::End(StpPacket::Stamped {
@@ -208,7 +199,6 @@ fn word_with(row: Row, payload: u64, size: u8, count: u8, word: u64) -> Next<Par
     requires word { word < 16 ^ (count + 1) }
     ensures next { result ≡ word_with row payload size count word }
     ensures sound { IsSoundNext result }
-    ensures proper { StopsProperly result }
 {
     if count + 1 == word_nibbles(size) {
         Next::End(StpPacket::Stamped {
@@ -237,7 +227,6 @@ impl Partial {
         requires room { count_of self ≤ NIBBLE_ROOM }
         ensures next { result ≡ rule order self nibble }
         ensures sound { IsSoundNext result }
-        ensures proper { StopsProperly result }
         ensures held { held_after result ≤ count_of self + 1 }
     {
         match self {

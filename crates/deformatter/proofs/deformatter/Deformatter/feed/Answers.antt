@@ -1,79 +1,74 @@
-use Rattle.std.proofs.Common.{rules, ◌≡◌, ◌≤◌, ℕ, ◌+◌, List, [], ◌∷◌, ◌++◌, refl, sym, ◌∙◌, ap, subst, arith, true, false, Option}
+use Rattle.std.proofs.Common.{rules, ◌≡◌, ◌≤◌, ℕ, ◌+◌, ◌-◌, List, [], ◌∷◌, ◌++◌, refl, sym, ◌∙◌, ap, subst, arith, true, false, Option}
 use Rattle.std.specs.Prelude.{◌==◌, ◌&&◌}
 use Rattle.deformatter.specs.Names.{Cell, Mode, Hunting, Placed, byte_at, StandsIn, hunts, skipped_of, is_counted}
 use Rattle.deformatter.specs.Names.{state_after, Full, start, rule, pattern, run_of}
 use Rattle.trace_values.proofs.Modes as laws
 use Rattle.deformatter.specs.Phase.{mode_in}
 use Rattle.deformatter.specs.Reading.{port_stream, cells_in, id_in}
+use Rattle.deformatter.specs.Block.{TakesByte}
 use Rattle.deformatter.specs.Growth.{PortGrows, goes_on}
 use Rattle.deformatter.specs.Rule.{count_of, cells_by, id_by}
 use Rattle.deformatter.specs.Deformatter.{Stands, mode_of, state_of, id_of, is_live, is_hunter, tail_of, skipped_by}
 use Rattle.deformatter.specs.declared.step.PortStep.{PortStep}
+use Rattle.deformatter.specs.declared.step.PortStep.TheVariants.{Quiet, Locked}
 use Rattle.deformatter.specs.declared.deformatter.Deformatter.{Deformatter}
 use Rattle.deformatter.specs.declared.deformatter.Phase.{Phase}
 use Rattle.deformatter.specs.declared.deformatter.Phase.TheVariants.{Hunting as PhaseHunting}
 use Rattle.deformatter.proofs.Blocks.{silent_cells}
-use Rattle.deformatter.proofs.Feeding.{Fed, fed, long_enough, skips-step, skips-cells, skips-id, locks-step, locks-cells, locks-id, reads_on, stays_live, few_more}
+use Rattle.deformatter.proofs.Feeding.{Fed, fed, long_enough, Sought, skips, locks, reads_on, stays_live, few_more}
 use Rattle.deformatter.proofs.deformatter.Deformatter.feed.Goals as goal
 
 -- the mode of a deformatter that hunts
 hunts_in : (d : Deformatter) → d.phase ≡ PhaseHunting → mode_of d ≡ Hunting (run_of d.hunter) d.skipped
 hunts_in d e = ap (λ (p : Phase). mode_in p d.hunter d.skipped) e
 
+-- this is the answer to a byte of the hunt
+abbrev Seeking : Deformatter → ℕ → ℕ → PortStep → Type 0
+Seeking d at byte step = (u : List Placed) → Stands d u → Sought (is_hunter d) u at byte step
+
+-- so it takes the byte, which gives nothing
+hunted : {old new : Deformatter} {at byte : ℕ} {step : PortStep} {given : List Cell} → Seeking old at byte step → given ≡ [] → is_hunter new ≡ is_hunter old → is_live new ≡ goes_on step →
+    tail_of new + skipped_by new ≤ tail_of old + skipped_by old + 1 → (tail_of new ≤ tail_of old + 1) × (skipped_by new ≤ skipped_by old + 1) →
+    ((u : List Placed) → Stands old u → Stands new (u ++ byte_at at byte ∷ [])) → TakesByte old new at byte step given
+hunted {given = given} sought e same live few each list = record {
+  same = same;
+  list = list;
+  step = λ u s. (sought u s).grows;
+  cells = λ u s. (sought u s).cells given e;
+  live = live;
+  few = few;
+  each = each;
+  quiet = λ _. e;
+}
+
 pub returns-then-push : goal.returns-then-push
 returns-then-push c =
     let d = c.args.self.now in
-    let m = mode_of d in
-    let run = run_of d.hunter in
-    let at = c.args.at in
-    let byte = c.args.byte in
-    let live = is_live d in
+    let b = byte_at c.args.at c.args.byte in
     let e = hunts_in d c.in-Hunting.is in
-    let f : (byte == 127 && run == 3) ≡ true = sym c.push.ensures.ends ∙ c.if-push.true in
-    let long = long_enough run d.skipped byte (sym (ap (λ (p : Phase). is_counted pattern (mode_in p d.hunter d.skipped)) c.in-Hunting.is) ∙ d.counted) f in
-    record {
-      same = search rules;
-      list = λ u s. record {
-        reads = laws.locks-list pattern Full rule start m run d.skipped (byte_at at byte) live (state_of d) u e f s.reads;
-        id = λ l. s.id l ∙ locks-id m run d.skipped u at byte live (state_of d) e s.reads f
-            ∙ ap (λ (x : Mode). id_in (port_stream (hunts x) (u ++ byte_at at byte ∷ []))) e;
-      };
-      step = λ u s. locks-step m run d.skipped u at byte live (state_of d) e s.reads f long;
-      cells = λ u s. locks-cells m run d.skipped u at byte live (state_of d) e s.reads f c.args.out.now.items c.requires.out;
-      live = search rules;
-      few = search rules;
-      each = search rules;
-      quiet = search rules;
-    }
+    let f : (c.args.byte == 127 && run_of d.hunter == 3) ≡ true = sym c.push.ensures.ends ∙ c.if-push.true in
+    let long = long_enough (run_of d.hunter) d.skipped c.args.byte (sym (ap (λ (p : Phase). is_counted pattern (mode_in p d.hunter d.skipped)) c.in-Hunting.is) ∙ d.counted) f in
+    let sought : Seeking d c.args.at c.args.byte (Locked (d.skipped - 3)) = λ u s. locks (mode_of d) (run_of d.hunter) d.skipped u c.args.at c.args.byte (is_live d) (state_of d) e s.reads f long in
+    hunted sought c.requires.out (search rules) (search rules) (search rules) (search rules) (λ u s. record {
+      reads = laws.locks-list pattern Full rule start (mode_of d) (run_of d.hunter) d.skipped b (is_live d) (state_of d) u e f s.reads;
+      id = λ l. s.id l ∙ (sought u s).id ∙ ap (λ (x : Mode). id_in (port_stream (hunts x) (u ++ b ∷ []))) e;
+    })
 
 pub returns-else-push : goal.returns-else-push
 returns-else-push c =
     let d = c.args.self.now in
-    let m = mode_of d in
-    let run = run_of d.hunter in
-    let at = c.args.at in
-    let byte = c.args.byte in
-    let live = is_live d in
+    let b = byte_at c.args.at c.args.byte in
     let e = hunts_in d c.in-Hunting.is in
-    let f : (byte == 127 && run == 3) ≡ false = sym c.push.ensures.ends ∙ c.if-push.false in
+    let f : (c.args.byte == 127 && run_of d.hunter == 3) ≡ false = sym c.push.ensures.ends ∙ c.if-push.false in
     let now : mode_in d.phase c.push.new.self (d.skipped + 1) ≡ Hunting (run_of c.push.new.self) (d.skipped + 1) = ap (λ (p : Phase). mode_in p c.push.new.self (d.skipped + 1)) c.in-Hunting.is in
-    record {
-      same = search rules;
-      list = λ u s. record {
-        reads = subst (λ (x : Mode). StandsIn pattern Full rule start x live (state_of d) (u ++ byte_at at byte ∷ [])) (sym now)
-            (subst (λ (n : ℕ). StandsIn pattern Full rule start (Hunting n (d.skipped + 1)) live (state_of d) (u ++ byte_at at byte ∷ [])) (sym c.push.ensures.run)
-            (laws.skips-list pattern Full rule start m run d.skipped (byte_at at byte) live (state_of d) u e f s.reads));
-        id = λ l. s.id l ∙ skips-id m run d.skipped u at byte live (state_of d) e s.reads f
-            ∙ ap (λ (x : Mode). id_in (port_stream (hunts x) (u ++ byte_at at byte ∷ []))) e
-            ∙ sym (ap (λ (x : Mode). id_in (port_stream (hunts x) (u ++ byte_at at byte ∷ []))) now);
-      };
-      step = λ u s. skips-step m run d.skipped u at byte live (state_of d) e s.reads f;
-      cells = λ u s. skips-cells m run d.skipped u at byte live (state_of d) e s.reads f c.args.out.now.items c.requires.out;
-      live = search rules;
-      few = search rules;
-      each = search rules;
-      quiet = search rules;
-    }
+    let sought : Seeking d c.args.at c.args.byte Quiet = λ u s. skips (mode_of d) (run_of d.hunter) d.skipped u c.args.at c.args.byte (is_live d) (state_of d) e s.reads f in
+    hunted sought c.requires.out (search rules) (search rules) (search rules) (search rules) (λ u s. record {
+      reads = subst (λ (x : Mode). StandsIn pattern Full rule start x (is_live d) (state_of d) (u ++ b ∷ [])) (sym now)
+          (subst (λ (n : ℕ). StandsIn pattern Full rule start (Hunting n (d.skipped + 1)) (is_live d) (state_of d) (u ++ b ∷ [])) (sym c.push.ensures.run)
+          (laws.skips-list pattern Full rule start (mode_of d) (run_of d.hunter) d.skipped b (is_live d) (state_of d) u e f s.reads));
+      id = λ l. s.id l ∙ (sought u s).id ∙ ap (λ (x : Mode). id_in (port_stream (hunts x) (u ++ b ∷ []))) e
+          ∙ sym (ap (λ (x : Mode). id_in (port_stream (hunts x) (u ++ b ∷ []))) now);
+    })
 
 -- a byte of the reading
 reading : (c : goal.After-read) (u : List Placed) → Stands c.args.self.now u →

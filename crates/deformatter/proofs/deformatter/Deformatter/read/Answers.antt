@@ -1,9 +1,9 @@
-use Rattle.std.proofs.Common.{◌≡◌, ℕ, zero, suc, ◌+◌, ◌-◌, ◌*◌, List, [], ◌∷◌, ◌++◌, take, refl, sub-one, sym, ◌∙◌, ap}
-use Rattle.std.proofs.Common.{arith, Bool, true, false}
+use Rattle.std.proofs.Common.{◌≡◌, ℕ, zero, suc, ◌+◌, ◌-◌, ◌*◌, List, [], ◌∷◌, ◌++◌, take, refl, sub-one, sym, ◌∙◌, ap, subst}
+use Rattle.std.proofs.Common.{arith, Bool, true, false, Option}
 use Rattle.std.specs.Prelude.{◌==◌, if◌then◌else◌}
 use Rattle.std.proofs.lemmas.Bool.{false≢true}
 use Rattle.std.proofs.lemmas.Bool.Decides.{nat_tests}
-use Rattle.deformatter.specs.Names.{Next, Go, End, Fail, Placed, PortItem, Frame, Full, Half, State, byte_at}
+use Rattle.deformatter.specs.Names.{Next, Go, End, Fail, Placed, PortItem, Frame, Full, Half, State, byte_at, Cell, Mode}
 use Rattle.deformatter.specs.Names.{live_after, state_after, start, rule, state}
 use Rattle.frame_grammar.specs.Port as port
 use Rattle.frame_grammar.specs.Port.{word_ended}
@@ -14,10 +14,11 @@ use Rattle.port_sync.specs.declared.aligner.Part.{Part}
 use Rattle.port_sync.specs.declared.aligner.Part.TheVariants.{Between}
 use Rattle.port_sync.proofs.Aligning.{rule_by}
 use Rattle.deformatter.specs.Rule.{step_by, cells_by, id_by}
-use Rattle.deformatter.specs.Deformatter.{state_of, id_of}
+use Rattle.deformatter.specs.Deformatter.{state_of, id_of, mode_of}
 use Rattle.deformatter.specs.Unfinished.{zipped, placed_of, len_of, halves_of}
 use Rattle.deformatter.specs.declared.unfinished.Unfinished.{Unfinished}
 use Rattle.deformatter.specs.declared.deformatter.Deformatter.{Deformatter}
+use Rattle.deformatter.specs.declared.step.PortStep.{PortStep}
 use Rattle.deformatter.specs.declared.step.PortStep.TheVariants.{Quiet, Half as HalfEnds}
 use Rattle.deformatter.proofs.deformatter.Deformatter.read.Goals as goal
 
@@ -31,12 +32,26 @@ begun d = record {
   at = d.first_at;
 }
 
--- what the rule says of a byte that ends this
-by_answer : (d : Deformatter) (at byte : ℕ) (h : answer.Half) → h ≡ said d.aligner.left d.aligner.part byte →
-    rule (state_of d) (byte_at at byte) ≡ outcome (begun d) at byte h
-by_answer d at byte h e =
-    rule_by d.aligner.left (placed_of d.frame) (halves_of d.frame) d.aligner.part d.first_at at byte
-    ∙ sym (ap (λ (x : answer.Half). outcome (begun d) at byte x) e)
+-- what a byte leaves and gives, by what the rule says of it
+abbrev Follows : Deformatter → ℕ → Mode → Bool → State → Option ℕ → List Cell → PortStep → Next State PortItem → Type 0
+Follows d at mode live now id cells step n = record {
+  mode : mode ≡ mode_of d;
+  live : live ≡ live_after n;
+  state : now ≡ state_after start n (state_of d);
+  id : id ≡ id_by (id_of d) n;
+  cells : cells ≡ cells_by (id_of d) n;
+  step : step ≡ step_by at (state_of d) n;
+}
+
+-- for a byte that ends this, of which the rule says that
+by_answer : {mode : Mode} {live : Bool} {now : State} {id : Option ℕ} {cells : List Cell} {step : PortStep}
+    (d : Deformatter) (at byte : ℕ) (h : answer.Half) → h ≡ said d.aligner.left d.aligner.part byte →
+    (n : Next State PortItem) → outcome (begun d) at byte h ≡ n → Follows d at mode live now id cells step n →
+    Follows d at mode live now id cells step (rule (state_of d) (byte_at at byte))
+by_answer {mode = mode} {live = live} {now = now} {id = id} {cells = cells} {step = step} d at byte h e n r =
+    subst (Follows d at mode live now id cells step)
+    (sym (rule_by d.aligner.left (placed_of d.frame) (halves_of d.frame) d.aligner.part d.first_at at byte
+    ∙ sym (ap (λ (x : answer.Half). outcome (begun d) at byte x) e) ∙ r))
 
 same_state : (l m : ℕ) (b f : List Placed) (h k : ℕ) (p q : Part) (at : ℕ) → l ≡ m → b ≡ f → h ≡ k → p ≡ q →
     state l b h p at ≡ state m f k q at
@@ -77,24 +92,6 @@ word_goes_on zero f halves e = absurd (false≢true (sym e))
 word_goes_on (suc left) f halves e =
     ap (λ (l : ℕ). Go (record { left = l; bytes = f; halves = halves; part = port.Between })) (sym (sub-one (suc left)))
 
--- the clauses, by what the rule says
-module _ (d : Deformatter) (at byte : ℕ) (n : Next State PortItem) (r : rule (state_of d) (byte_at at byte) ≡ n) where
-  live_by : (l : Bool) → l ≡ live_after n → l ≡ live_after (rule (state_of d) (byte_at at byte))
-  live_by l e = e ∙ sym (ap (λ (x : Next State PortItem). live_after x) r)
-
-  state_by : (s : State) → s ≡ state_after start n (state_of d) → s ≡ state_after start
-      (rule (state_of d) (byte_at at byte)) (state_of d)
-  state_by s e = e ∙ sym (ap (λ (x : Next State PortItem). state_after start x (state_of d)) r)
-
-  id_is : id_by (id_of d) n ≡ id_by (id_of d) (rule (state_of d) (byte_at at byte))
-  id_is = sym (ap (id_by (id_of d)) r)
-
-  cells_are : cells_by (id_of d) n ≡ cells_by (id_of d) (rule (state_of d) (byte_at at byte))
-  cells_are = sym (ap (cells_by (id_of d)) r)
-
-  step_is : step_by at (state_of d) n ≡ step_by at (state_of d) (rule (state_of d) (byte_at at byte))
-  step_is = sym (ap (step_by at (state_of d)) r)
-
 quiet : (b : Bool) → b ≡ true → Quiet ≡ (if b then Quiet else HalfEnds)
 quiet b e = sym (ap (λ (x : Bool). if x then Quiet else HalfEnds) e)
 
@@ -104,159 +101,120 @@ half_ends b e = sym (ap (λ (x : Bool). if x then Quiet else HalfEnds) e)
 pub returns-then-is_whole : goal.returns-then-is_whole
 returns-then-is_whole c =
     let d = c.args.self.now in
-    let at = c.args.at in
-    let byte = c.args.byte in
-    let f = placed_of d.frame ++ (byte_at d.first_at c.in-Pair.first ∷ (byte_at at c.in-Pair.second ∷ [])) in
-    let n = End (Frame f (halves_of d.frame)) in
+    let f = placed_of d.frame ++ (byte_at d.first_at c.in-Pair.first ∷ (byte_at c.args.at c.in-Pair.second ∷ [])) in
     let left_is : d.aligner.left ≡ 0 = no_left (len_of d.frame) _ d.aligner.left d.whole c.add.ensures.len
     (sym c.is_whole.ensures ∙ c.if-is_whole.true) in
-    let r : rule (state_of d) (byte_at at byte) ≡ n = by_answer d at byte (Pair c.in-Pair.first c.in-Pair.second)
-    c.in-Pair.ensures.said
-    ∙ ap (λ (l : ℕ). word_ended l f (halves_of d.frame)) left_is in
-    record {
+    by_answer d c.args.at c.args.byte (Pair c.in-Pair.first c.in-Pair.second) c.in-Pair.ensures.said
+    (End (Frame f (halves_of d.frame))) (ap (λ (l : ℕ). word_ended l f (halves_of d.frame)) left_is)
+    (record {
       mode = refl;
-      live = live_by d at byte n r _ c.in-Pair.ensures.live;
-      state = state_by d at byte n r _ (same_state _ 7 _ [] _ 0 _ Between d.first_at
+      live = c.in-Pair.ensures.live;
+      state = same_state _ 7 _ [] _ 0 _ Between d.first_at
           (c.in-Pair.ensures.left ∙ ap (λ (l : ℕ). if l == 0 then 7 else l - 1) left_is)
-          c.finish-self.ensures.placed c.finish-self.ensures.halves c.in-Pair.ensures.part);
-      id = c.finish-self.ensures.id ∙ ap (λ (l : List Placed). id_by d.id (End (Frame l 0))) c.add.ensures.placed
-          ∙ id_is d at byte n r;
-      cells = c.finish-self.ensures.cells ∙ ap (λ (l : List Placed). cells_by d.id (End (Frame l 0)))
-          c.add.ensures.placed ∙ cells_are d at byte n r;
-      step = step_is d at byte n r;
-    }
+          c.finish-self.ensures.placed c.finish-self.ensures.halves c.in-Pair.ensures.part;
+      id = c.finish-self.ensures.id ∙ ap (λ (l : List Placed). id_by d.id (End (Frame l 0))) c.add.ensures.placed;
+      cells = c.finish-self.ensures.cells
+          ∙ ap (λ (l : List Placed). cells_by d.id (End (Frame l 0))) c.add.ensures.placed;
+      step = refl;
+    })
 
 pub returns-else-is_whole : goal.returns-else-is_whole
 returns-else-is_whole c =
     let d = c.args.self.now in
-    let at = c.args.at in
-    let byte = c.args.byte in
-    let f = placed_of d.frame ++ (byte_at d.first_at c.in-Pair.first ∷ (byte_at at c.in-Pair.second ∷ [])) in
-    let n = Go (record { left = d.aligner.left - 1; bytes = f; halves = halves_of d.frame; part = port.Between }) in
+    let f = placed_of d.frame ++ (byte_at d.first_at c.in-Pair.first ∷ (byte_at c.args.at c.in-Pair.second ∷ [])) in
     let left_is : (d.aligner.left == 0) ≡ false = some_left (len_of d.frame) _ d.aligner.left d.whole
     c.add.ensures.len (sym c.is_whole.ensures ∙ c.if-is_whole.false) in
-    let r : rule (state_of d) (byte_at at byte) ≡ n = by_answer d at byte (Pair c.in-Pair.first c.in-Pair.second)
-    c.in-Pair.ensures.said
-    ∙ word_goes_on d.aligner.left f (halves_of d.frame) left_is in
-    record {
+    by_answer d c.args.at c.args.byte (Pair c.in-Pair.first c.in-Pair.second) c.in-Pair.ensures.said
+    (Go (record { left = d.aligner.left - 1; bytes = f; halves = halves_of d.frame; part = port.Between }))
+    (word_goes_on d.aligner.left f (halves_of d.frame) left_is)
+    (record {
       mode = refl;
-      live = live_by d at byte n r _ c.in-Pair.ensures.live;
-      state = state_by d at byte n r _ (same_state _ (d.aligner.left - 1) _ f _ (halves_of d.frame) _ Between d.first_at
+      live = c.in-Pair.ensures.live;
+      state = same_state _ (d.aligner.left - 1) _ f _ (halves_of d.frame) _ Between d.first_at
           (c.in-Pair.ensures.left ∙ ap (λ (b : Bool). if b then 7 else d.aligner.left - 1) left_is)
-          c.add.ensures.placed c.add.ensures.halves c.in-Pair.ensures.part);
-      id = id_is d at byte n r;
-      cells = c.requires.out ∙ cells_are d at byte n r;
-      step = quiet (halves_of d.frame == halves_of d.frame) (same (halves_of d.frame)) ∙ step_is d at byte n r;
-    }
+          c.add.ensures.placed c.add.ensures.halves c.in-Pair.ensures.part;
+      id = refl;
+      cells = c.requires.out;
+      step = quiet (halves_of d.frame == halves_of d.frame) (same (halves_of d.frame));
+    })
+
+-- what goes on after a half synchronisation in a frame
+abbrev with_half : Deformatter → State
+with_half d = record {
+  left = d.aligner.left;
+  bytes = placed_of d.frame;
+  halves = halves_of d.frame + 1;
+  part = port.Between;
+}
 
 pub returns-then-not-is_empty : goal.returns-then-not-is_empty
 returns-then-not-is_empty c =
     let d = c.args.self.now in
-    let at = c.args.at in
-    let byte = c.args.byte in
-    let t : State = record {
-      left = d.aligner.left;
-      bytes = placed_of d.frame;
-      halves = halves_of d.frame + 1;
-      part = port.Between;
-    } in
-    let n = Go t in
     let left_is : (d.aligner.left == 7) ≡ false = within (len_of d.frame) d.aligner.left d.whole
     (sym c.is_empty.ensures ∙ c.if-not-is_empty.true) in
-    let r : rule (state_of d) (byte_at at byte) ≡ n = by_answer d at byte HalfSync c.in-HalfSync.ensures.said
-    ∙ ap (λ (b : Bool). if b then End port.Half else Go t) left_is in
-    record {
+    by_answer d c.args.at c.args.byte HalfSync c.in-HalfSync.ensures.said (Go (with_half d))
+    (ap (λ (b : Bool). if b then End port.Half else Go (with_half d)) left_is)
+    (record {
       mode = refl;
-      live = live_by d at byte n r _ c.in-HalfSync.ensures.live;
-      state = state_by d at byte n r _
-          (same_state _ d.aligner.left _ (placed_of d.frame) _ (halves_of d.frame + 1) _ Between d.first_at
-          c.in-HalfSync.ensures.left c.add_half.ensures.placed c.add_half.ensures.halves c.in-HalfSync.ensures.part);
-      id = id_is d at byte n r;
-      cells = c.requires.out ∙ cells_are d at byte n r;
-      step = half_ends (halves_of d.frame + 1 == halves_of d.frame) (one_more (halves_of d.frame))
-          ∙ step_is d at byte n r;
-    }
+      live = c.in-HalfSync.ensures.live;
+      state = same_state _ d.aligner.left _ (placed_of d.frame) _ (halves_of d.frame + 1) _ Between d.first_at
+          c.in-HalfSync.ensures.left c.add_half.ensures.placed c.add_half.ensures.halves c.in-HalfSync.ensures.part;
+      id = refl;
+      cells = c.requires.out;
+      step = half_ends (halves_of d.frame + 1 == halves_of d.frame) (one_more (halves_of d.frame));
+    })
+
+-- a synchronisation between frames leaves nothing
+start_is : (d : Deformatter) (left : ℕ) (part : Part) → left ≡ d.aligner.left → part ≡ Between → len_of d.frame ≡ 0 →
+    state left (placed_of d.frame) (halves_of d.frame) part d.first_at ≡ start
+start_is d left part l p e =
+    same_state _ 7 _ [] _ 0 _ Between d.first_at (l ∙ seven (len_of d.frame) d.aligner.left d.whole e)
+    (no_bytes d.frame e) (d.between e) p
 
 pub returns-else-not-is_empty : goal.returns-else-not-is_empty
 returns-else-not-is_empty c =
     let d = c.args.self.now in
-    let at = c.args.at in
-    let byte = c.args.byte in
-    let n = End port.Half in
-    let t : State = record {
-      left = d.aligner.left;
-      bytes = placed_of d.frame;
-      halves = halves_of d.frame + 1;
-      part = port.Between;
-    } in
+    let x = c.in-HalfSync.ensures in
     let len_is : len_of d.frame ≡ 0 = at_start (len_of d.frame) (sym c.is_empty.ensures ∙ c.if-not-is_empty.false) in
     let left_is : d.aligner.left ≡ 7 = seven (len_of d.frame) d.aligner.left d.whole len_is in
-    let r : rule (state_of d) (byte_at at byte) ≡ n = by_answer d at byte HalfSync c.in-HalfSync.ensures.said
-    ∙ ap (λ (l : ℕ). if l == 7 then n else Go t) left_is in
-    record {
-      mode = refl;
-      live = live_by d at byte n r _ c.in-HalfSync.ensures.live;
-      state = state_by d at byte n r _ (same_state _ 7 _ [] _ 0 _ Between d.first_at
-          (c.in-HalfSync.ensures.left ∙ left_is) (no_bytes d.frame len_is) (d.between len_is)
-          c.in-HalfSync.ensures.part);
-      id = id_is d at byte n r;
-      cells = c.requires.out ∙ cells_are d at byte n r;
-      step = step_is d at byte n r;
-    }
+    by_answer d c.args.at c.args.byte HalfSync x.said (End port.Half)
+    (ap (λ (l : ℕ). if l == 7 then End port.Half else Go (with_half d)) left_is)
+    (record { mode = refl; live = x.live; state = start_is d _ _ x.left x.part len_is; id = refl; cells = c.requires.out; step = refl })
 
 pub returns-in-FullSync : goal.returns-in-FullSync
 returns-in-FullSync c =
     let d = c.args.self.now in
-    let at = c.args.at in
-    let byte = c.args.byte in
-    let n = End port.Full in
-    let left_is : d.aligner.left ≡ 7 = c.in-FullSync.ensures.sound in
-    let len_is : len_of d.frame ≡ 0 = none (len_of d.frame) d.aligner.left d.whole left_is in
-    let r : rule (state_of d) (byte_at at byte) ≡ n = by_answer d at byte FullSync c.in-FullSync.ensures.said in
-    record {
-      mode = refl;
-      live = live_by d at byte n r _ c.in-FullSync.ensures.live;
-      state = state_by d at byte n r _ (same_state _ 7 _ [] _ 0 _ Between d.first_at
-          (c.in-FullSync.ensures.left ∙ left_is) (no_bytes d.frame len_is) (d.between len_is)
-          c.in-FullSync.ensures.part);
-      id = id_is d at byte n r;
-      cells = c.requires.out ∙ cells_are d at byte n r;
-      step = step_is d at byte n r;
-    }
+    let x = c.in-FullSync.ensures in
+    let len_is : len_of d.frame ≡ 0 = none (len_of d.frame) d.aligner.left d.whole x.sound in
+    by_answer d c.args.at c.args.byte FullSync x.said (End port.Full) refl
+    (record { mode = refl; live = x.live; state = start_is d _ _ x.left x.part len_is; id = refl; cells = c.requires.out; step = refl })
 
 pub returns-in-Waiting : goal.returns-in-Waiting
 returns-in-Waiting c =
     let d = c.args.self.now in
-    let at = c.args.at in
-    let byte = c.args.byte in
-    let part = longer d.aligner.part byte in
-    let n = Go (state d.aligner.left (placed_of d.frame) (halves_of d.frame) part at) in
-    let r : rule (state_of d) (byte_at at byte) ≡ n = by_answer d at byte Waiting c.in-Waiting.ensures.said in
-    record {
+    let part = longer d.aligner.part c.args.byte in
+    by_answer d c.args.at c.args.byte Waiting c.in-Waiting.ensures.said
+    (Go (state d.aligner.left (placed_of d.frame) (halves_of d.frame) part c.args.at)) refl
+    (record {
       mode = refl;
-      live = live_by d at byte n r _ c.in-Waiting.ensures.live;
-      state = state_by d at byte n r _
-          (same_state _ d.aligner.left _ (placed_of d.frame) _ (halves_of d.frame) _ part at
-          c.in-Waiting.ensures.left refl refl c.in-Waiting.ensures.part);
-      id = id_is d at byte n r;
-      cells = c.requires.out ∙ cells_are d at byte n r;
-      step = quiet (halves_of d.frame == halves_of d.frame) (same (halves_of d.frame)) ∙ step_is d at byte n r;
-    }
+      live = c.in-Waiting.ensures.live;
+      state = same_state _ d.aligner.left _ (placed_of d.frame) _ (halves_of d.frame) _ part c.args.at
+          c.in-Waiting.ensures.left refl refl c.in-Waiting.ensures.part;
+      id = refl;
+      cells = c.requires.out;
+      step = quiet (halves_of d.frame == halves_of d.frame) (same (halves_of d.frame));
+    })
 
 pub returns-in-Bad : goal.returns-in-Bad
 returns-in-Bad c =
     let d = c.args.self.now in
-    let at = c.args.at in
-    let byte = c.args.byte in
-    let n = Fail c.in-Bad.reason in
-    let r : rule (state_of d) (byte_at at byte) ≡ n = by_answer d at byte (Bad c.in-Bad.reason) c.in-Bad.ensures.said in
-    record {
+    by_answer d c.args.at c.args.byte (Bad c.in-Bad.reason) c.in-Bad.ensures.said (Fail c.in-Bad.reason) refl
+    (record {
       mode = refl;
-      live = live_by d at byte n r _ c.in-Bad.ensures.live;
-      state = state_by d at byte n r _
-          (same_state _ d.aligner.left _ (placed_of d.frame) _ (halves_of d.frame) _ d.aligner.part d.first_at
-          c.in-Bad.ensures.left refl refl c.in-Bad.ensures.part);
-      id = id_is d at byte n r;
-      cells = c.requires.out ∙ cells_are d at byte n r;
-      step = step_is d at byte n r;
-    }
+      live = c.in-Bad.ensures.live;
+      state = same_state _ d.aligner.left _ (placed_of d.frame) _ (halves_of d.frame) _ d.aligner.part d.first_at
+          c.in-Bad.ensures.left refl refl c.in-Bad.ensures.part;
+      id = refl;
+      cells = c.requires.out;
+      step = refl;
+    })

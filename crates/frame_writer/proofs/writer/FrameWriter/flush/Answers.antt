@@ -1,8 +1,14 @@
-use Rattle.std.proofs.Common.{ℕ, ◌+◌, List, [], ◌∷◌, ◌++◌, length, ap, ◌∙◌, sym, arith}
-use Rattle.frame_writer.specs.Writer.{as_frame, later_of}
+use Rattle.std.proofs.Common.{◌≡◌, ℕ, ◌+◌, List, [], ◌∷◌, ◌++◌, length, ap, ◌∙◌, sym, arith, None}
+use Rattle.frame_writer.specs.Writer.{as_frame, later_of, to_come}
+use Rattle.frame_writer.specs.declared.writer.FrameWriter.{FrameWriter}
 use Rattle.frame_writer.proofs.Frames.{nothing, waits}
 use Rattle.frame_writer.proofs.Standing.{nothing_before, none_more, stands_flush}
 use Rattle.frame_writer.proofs.writer.FrameWriter.flush.Goals as goal
+
+-- nothing is to come where no pair is there and no byte is held
+nothing_left : (w : FrameWriter) → w.pairs.items ≡ [] → w.held ≡ None → to_come w [] [] ≡ []
+nothing_left w p h =
+    sym (waits w.every w.halves (later_of w []) w.frames w.pairs.items w.id w.held [] p h) ∙ nothing w.every w.halves (later_of w []) w.frames w.id
 
 pub returns-then-complete-clause-to_come : goal.returns-then-complete-clause-to_come
 returns-then-complete-clause-to_come c = λ t later.
@@ -18,10 +24,7 @@ returns-then-complete-clause-list c = λ every halves closed t so_far s.
     stands_flush c.args.self.now c.begin_frame.new.self every halves closed c.complete.new.out.items so_far t (returns-then-complete-clause-to_come c) (returns-then-complete-clause-count c) s
 
 pub returns-then-complete-clause-none : goal.returns-then-complete-clause-none
-returns-then-complete-clause-none c =
-    let w = c.begin_frame.new.self in
-    sym (waits w.every w.halves (later_of w []) w.frames w.pairs.items w.id w.held [] c.begin_frame.ensures.begun.1 c.begin_frame.ensures.begun.2)
-    ∙ nothing w.every w.halves (later_of w []) w.frames w.id
+returns-then-complete-clause-none c = nothing_left c.begin_frame.new.self c.begin_frame.ensures.begun.1 c.begin_frame.ensures.begun.2
 
 pub returns-else-complete-clause-to_come : goal.returns-else-complete-clause-to_come
 returns-else-complete-clause-to_come c = λ t later.
@@ -39,11 +42,7 @@ returns-else-complete-clause-list c = λ every halves closed t so_far s.
     stands_flush c.args.self.now c.complete.new.self every halves closed c.complete.new.out.items so_far t (returns-else-complete-clause-to_come c) (returns-else-complete-clause-count c) s
 
 pub returns-else-complete-clause-none : goal.returns-else-complete-clause-none
-returns-else-complete-clause-none c =
-    let w = c.complete.new.self in
-    let none = c.complete.ensures.none c.if-complete.false [] in
-    sym (waits w.every w.halves (later_of w []) w.frames w.pairs.items w.id w.held [] none.2 c.complete.ensures.held)
-    ∙ nothing w.every w.halves (later_of w []) w.frames w.id
+returns-else-complete-clause-none c = nothing_left c.complete.new.self (c.complete.ensures.none c.if-complete.false []).2 c.complete.ensures.held
 
 pub returns-else-complete-clause-load : goal.returns-else-complete-clause-load
 returns-else-complete-clause-load c = let e = ap length (c.complete.ensures.none c.if-complete.false []).2 in omega arith

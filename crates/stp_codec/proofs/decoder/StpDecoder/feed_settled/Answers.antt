@@ -4,7 +4,7 @@ use Rattle.stp_codec.specs.Decoder.{is_hunter}
 use Rattle.stp_codec.proofs.Bytes.{of_byte, grows_high, grows_low, grows_faulty, faulty_list, ended, given_goes}
 use Rattle.stp_codec.proofs.Bytes.{high_answer, low_answer, fault_answer}
 use Rattle.stp_codec.proofs.Pairs.{by_high, by_low, by_fault}
-use Rattle.stp_codec.proofs.Taken.{sound_at, to_stands}
+use Rattle.stp_codec.proofs.Passing.{sound_at}
 use Rattle.stp_codec.proofs.decoder.StpDecoder.feed_settled.Goals as goal
 
 pub take_nibble-requires-clause-room : goal.take_nibble-requires-clause-room
@@ -103,4 +103,4 @@ returns-in-Fault-clause-takes c = λ n s.
     let first = c.take_nibble-low in
     by_fault d first.new.self n c.args.at c.args.byte first.result c.in-Fault.field-0 c.in-Fault.is
     first.ensures.half first.ensures.settled (first.ensures.list n s)
-    (sound_at d n c.requires.live (to_stands d c.requires.settled n s)) (first.ensures.step n s)
+    (sound_at d.order d.mode d.live d.partial d.attribution n c.requires.live s) (first.ensures.step n s)

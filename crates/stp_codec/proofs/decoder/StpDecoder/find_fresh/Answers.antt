@@ -1,8 +1,7 @@
 use Rattle.std.proofs.Common.{arith, take}
 use Rattle.stp_codec.specs.Parts.{packet_of}
 use Rattle.stp_codec.specs.Wholes.{nibbles_in}
-use Rattle.stp_codec.proofs.Taken.{fresh_finishes, fresh_fronts, copies_ready, copies_fronts, copies_same}
-use Rattle.stp_codec.proofs.Taken.{copies_idle, idle_finds, finds_packet}
+use Rattle.stp_codec.proofs.Taken.{fresh_finishes, fresh_fronts, copies_ready, copies_fronts, copies_finds, finds_packet}
 use Rattle.stp_codec.proofs.decoder.StpDecoder.find_fresh.Goals as goal
 
 pub returns-then-parts-count-clause-found : goal.returns-then-parts-count-clause-found
@@ -26,7 +25,4 @@ pub wait-requires-clause-ready : goal.wait-requires-clause-ready
 wait-requires-clause-ready c = copies_ready c.args.self.now c.hold.new.self c.args.ahead.now c.hold.ensures c.requires.ready
 
 pub returns-clause-found : goal.returns-clause-found
-returns-clause-found c =
-    let d = c.args.self.now in
-    let m = c.hold.new.self in
-    idle_finds d m c.wait.new.self (copies_same d m c.args.ahead.now c.hold.ensures) (copies_idle d m c.args.ahead.now c.hold.ensures) c.args.ahead.now c.args.count c.wait.result c.wait.ensures.found
+returns-clause-found c = copies_finds c.args.self.now c.hold.new.self c.wait.new.self c.args.ahead.now c.args.count c.wait.result c.hold.ensures c.wait.ensures.found

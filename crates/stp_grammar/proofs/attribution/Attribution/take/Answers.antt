@@ -1,36 +1,26 @@
-use Rattle.std.proofs.Common.{◌≡◌, List, [], ◌∷◌, ◌++◌, Option, refl, sym, ◌∙◌, ap, subst}
+use Rattle.std.proofs.Common.{◌≡◌, List, [], ◌∷◌, ◌++◌, Option, refl, sym, ◌∙◌, ap}
 use Rattle.stp_grammar.specs.declared.packet.StpPacket.{StpPacket}
 use Rattle.stp_grammar.specs.declared.packet.StpPacket.TheVariants.{Async, Plain, Stamped}
 use Rattle.stp_grammar.specs.declared.item.StpItem.{StpItem}
 use Rattle.stp_grammar.specs.declared.item.Stamp.TheVariants.{None as NoStamp}
-use Rattle.stp_grammar.specs.declared.attribution.Attribution.{Attribution}
-use Rattle.stp_grammar.specs.Proper.{IsProper}
 use Rattle.stp_grammar.specs.Attribution.{item_with, item_of, place_of}
-use Rattle.stp_grammar.specs.Attributed.{Stands}
-use Rattle.stp_grammar.proofs.Attributing.{stands_with, place_is, stamp_is}
+use Rattle.stp_grammar.proofs.Attributing.{stands_as, place_is, stamp_is}
 use Rattle.stp_grammar.proofs.attribution.Attribution.take.Goals as goal
 
 pub returns-in-Async-clause-list : goal.returns-in-Async-clause-list
-returns-in-Async-clause-list c = λ ps s. subst (λ p. Stands c.args.self.now (ps ++ p ∷ [])) (sym c.in-Async.is) (stands_with c.args.self.now c.args.self.now ps Async tt s refl refl refl refl)
-
--- what is kept after a packet that is this one
-standing : (old new : Attribution) (q p : StpPacket) → q ≡ p → IsProper q → ((ps : List StpPacket) → IsProper p → Stands old ps → Stands new (ps ++ p ∷ [])) →
-    (ps : List StpPacket) → Stands old ps → Stands new (ps ++ q ∷ [])
-standing old new q p e h f ps s = subst (λ z. Stands new (ps ++ z ∷ [])) (sym e) (f ps (subst IsProper e h) s)
+returns-in-Async-clause-list c = λ ps s.
+    let d = c.args.self.now in
+    stands_as d d ps c.args.packet Async c.in-Async.is c.requires.proper s (record { version = refl; master = refl; channel = refl; last = refl })
 
 pub returns-in-Plain-clause-list : goal.returns-in-Plain-clause-list
-returns-in-Plain-clause-list c =
+returns-in-Plain-clause-list c = λ ps s.
     let k = c.in-Plain in
-    let e = c.note.ensures in
-    standing c.args.self.now c.note.new.self c.args.packet (Plain k.row k.payload) k.is c.requires.proper
-    (λ ps h s. stands_with c.args.self.now c.note.new.self ps (Plain k.row k.payload) h s e.version e.master e.channel e.last)
+    stands_as c.args.self.now c.note.new.self ps c.args.packet (Plain k.row k.payload) k.is c.requires.proper s c.note.ensures
 
 pub returns-in-Stamped-clause-list : goal.returns-in-Stamped-clause-list
-returns-in-Stamped-clause-list c =
+returns-in-Stamped-clause-list c = λ ps s.
     let k = c.in-Stamped in
-    let e = c.stamp-stamp.ensures in
-    standing c.args.self.now c.stamp-stamp.new.self c.args.packet (Stamped k.row k.payload k.size k.word) k.is c.requires.proper
-    (λ ps h s. stands_with c.args.self.now c.stamp-stamp.new.self ps (Stamped k.row k.payload k.size k.word) h s e.version e.master e.channel e.last)
+    stands_as c.args.self.now c.stamp-stamp.new.self ps c.args.packet (Stamped k.row k.payload k.size k.word) k.is c.requires.proper s c.stamp-stamp.ensures.kept
 
 -- the item of a packet that is this one
 item_is : (o : Option StpItem) (ps : List StpPacket) (q p : StpPacket) → q ≡ p → o ≡ item_of (ps ++ q ∷ []) p → o ≡ item_of (ps ++ q ∷ []) q
