@@ -134,29 +134,30 @@ pub trait Finds: Machine {
 
 /// Takes bytes at once by a decoder of this kind, as a machine of sources does. Those before its reading end in `half`.
 macro_rules! take_packets {
-    ($decoder:expr, $bytes:expr, $half:expr, $kind:ident) => {{
-        if !$decoder.is_locked() {
-            let bytes = $decoder.skip_part($bytes);
-            return if bytes > 0 {
-                Some(TakenAtOnce {
+    ($decoder:expr, $bytes:expr, $half:expr, $kind:ident) => {
+        if $decoder.is_locked() {
+            match $decoder.take_part($bytes) {
+                None => None,
+                Some(taken) => Some(TakenAtOnce {
+                    bytes: taken.bytes,
+                    half: taken.half,
+                    item: match taken.item {
+                        None => None,
+                        Some(item) => Some(Packet::$kind(item)),
+                    },
+                }),
+            }
+        } else {
+            match $decoder.skip_part($bytes) {
+                0 => None,
+                bytes => Some(TakenAtOnce {
                     bytes,
                     half: $half,
                     item: None,
-                })
-            } else {
-                None
-            };
+                }),
+            }
         }
-        let taken = $decoder.take_part($bytes)?;
-        Some(TakenAtOnce {
-            bytes: taken.bytes,
-            half: taken.half,
-            item: match taken.item {
-                None => None,
-                Some(item) => Some(Packet::$kind(item)),
-            },
-        })
-    }};
+    };
 }
 
 #[tactic(auto, using(crate::proofs::Reading::itm_same, crate::proofs::Reading::itm_alike))]
