@@ -1,5 +1,7 @@
 -- Pieces that are put into a room: one after another, in part, and said otherwise.
-use Rattle.std.proofs.Common.{◌≡◌, ℕ, ◌+◌, ◌≤◌, List, [], ◌++◌, length, take, refl, sym, ◌∙◌, ap, append_assoc, append-nil, arith}
+use Rattle.std.proofs.Common.{◌≡◌, ℕ, zero, suc, ◌+◌, ◌-◌, ◌*◌, ◌≤◌, List, [], ◌++◌, length, take, refl, sym, ◌∙◌, ap, subst, append_assoc, append-nil, length-append, cond, arith}
+use Rattle.std.specs.Prelude.{◌==◌}
+use Rattle.std.proofs.lemmas.List.{length-take-le}
 use Rattle.trace_text.specs.Puts.{Puts, PutsAll}
 use Rattle.trace_text.proofs.Fronts.{part}
 
@@ -59,3 +61,28 @@ front_of {old = old} {new = new} {from = from} {size = size} {a = a} len p few r
   same = p.same;
   end = refl;
 }
+
+-- a piece has as many bytes as the room took
+pub sized : {old new : List ℕ} {from to m : ℕ} {a : List ℕ} → Puts old new from to m a → from + m ≤ length old → PutsAll old new from to (length a) a
+sized {old = old} {new = new} {from = from} {to = to} {a = a} p room =
+    let end = p.end in
+    let same = p.same in
+    let here = length-take-le from old (omega arith) in
+    let there = length-take-le to new (omega arith) in
+    let long = ap length p.text in
+    let sum = length-append (take from old) a in
+    record { text = p.text; same = p.same; end = (omega (arith, here, there, long, sum)) }
+
+-- once, or never: so many times
+pub once : {old new : List ℕ} {from to m : ℕ} {a : List ℕ} (times : ℕ) → times ≤ 1 → from + m ≤ length old → Puts old new from to m a →
+    Puts old new from (from + (to - from) * times) m (cond (times == 1) a [])
+once {old = old} {new = new} {from = from} {to = to} {m = m} {a = a} zero few room p =
+    let all = sized p room in
+    let end = p.end in
+    let long = all.end in
+    let none = within {n = m} (loose (front_of 0 all (omega arith) (omega (arith, long, end, room)))) (omega arith) refl in
+    subst (λ (k : ℕ). Puts old new from k m []) (let k : from + 0 ≡ from + (to - from) * 0 = omega arith in k) none
+once {old = old} {new = new} {from = from} {to = to} {m = m} {a = a} (suc zero) few room p =
+    let long = (sized p room).end in
+    subst (λ (k : ℕ). Puts old new from k m a) (let k : to ≡ from + (to - from) * 1 = omega (arith, long) in k) p
+once (suc (suc n)) few room p = absurd (let k : suc (suc n) ≤ 1 = few in omega arith)

@@ -5,8 +5,8 @@ use Rattle.std.proofs.lemmas.Bool.{eqb-true, leb-true}
 use Rattle.stp_grammar.specs.declared.packet.Row.{Row}
 use Rattle.stp_grammar.specs.Opcodes.{line_of, row_at}
 use Rattle.stp_grammar.proofs.Tables.{under, below, same, is_same}
-use Rattle.trace_text.specs.declared.said_tables.TheConstants.{WRITTEN, PLACE_COUNTS, WORDS, WORD_LENS, WIDTHS, WIDTH_LENS, DIGIT_COUNTS, MARKS, MARK_LENS}
-use Rattle.trace_text.specs.SaidText.{is_written, is_placed, word_at, width_at, mark_at}
+use Rattle.trace_text.specs.declared.said_tables.TheConstants.{WRITTEN, PLACE_COUNTS, STAMP_COUNTS, WORDS, WORD_LENS, WIDTHS, WIDTH_LENS, DIGIT_COUNTS, MARKS, MARK_LENS}
+use Rattle.trace_text.specs.SaidText.{is_written, is_placed, is_timed, word_at, width_at, mark_at}
 use Rattle.std.specs.Str.{bytes_eq}
 use Rattle.trace_text.proofs.DigitTables.{same_bytes}
 
@@ -38,6 +38,14 @@ placed_is n l = is_same _ _ (below (λ k. same (get_or PLACE_COUNTS.now k 0 == 1
 pub places_few : (n : ℕ) → n < 35 → get_or PLACE_COUNTS.now n 0 ≤ 1
 unfolding under
 places_few = few_at 1 PLACE_COUNTS.now refl
+
+pub timed_is : (n : ℕ) → n < 35 → (get_or STAMP_COUNTS.now n 0 == 1) ≡ is_timed (row_at n)
+unfolding under same
+timed_is n l = is_same _ _ (below (λ k. same (get_or STAMP_COUNTS.now k 0 == 1) (is_timed (row_at k))) 35 n l refl)
+
+pub stamps_few : (n : ℕ) → n < 35 → get_or STAMP_COUNTS.now n 0 ≤ 1
+unfolding under
+stamps_few = few_at 1 STAMP_COUNTS.now refl
 
 pub digit_count_is : (n : ℕ) → n < 35 → is_written (row_at n) ≡ true → get_or DIGIT_COUNTS.now n 0 ≡ (line_of (row_at n)).payload
 unfolding under

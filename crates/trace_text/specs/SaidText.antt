@@ -1,12 +1,14 @@
--- The parts of the texts of data, flags, triggers and NULL_TS, by their rows in the table of opcodes; and the line of
--- what a packet says.
+-- The parts of the texts of data, flags, triggers, NULL_TS and errors, by their rows in the table of opcodes; and the
+-- line of what a packet says.
 use Rattle.std.specs.Prelude.{ℕ, List, [], ◌++◌, codes, Bool, true, false, Option, Some, None, if◌then◌else◌}
 use Rattle.stp_grammar.specs.declared.packet.Row.{Row}
-use Rattle.stp_grammar.specs.declared.packet.Row.TheVariants.{Datum, Flag, NullStamp, Trigger}
+use Rattle.stp_grammar.specs.declared.packet.Row.TheVariants.{Datum, Flag, NullStamp, Trigger, MasterError}
+use Rattle.stp_grammar.specs.declared.packet.Row.TheVariants.{GlobalError}
 use Rattle.stp_grammar.specs.declared.item.Place.{Place}
+use Rattle.stp_grammar.specs.declared.item.Stamp.{Stamp}
 use Rattle.stp_grammar.specs.declared.item.StpItem.{StpItem}
 use Rattle.trace_text.specs.LineText.{event_line, stp_event}
-use Rattle.trace_text.specs.StpText.{mark_text, place_text, stp_text, width_text}
+use Rattle.trace_text.specs.StpText.{mark_text, place_text, stamp_text, stp_text, width_text}
 use Rattle.trace_text.specs.declared.remark.Remark.TheVariants.{None as NoRemark}
 
 -- it is one of these rows
@@ -15,6 +17,8 @@ is_written (Datum width marked stamped) = true
 is_written (Flag stamped) = true
 is_written NullStamp = true
 is_written (Trigger stamped) = true
+is_written MasterError = true
+is_written GlobalError = true
 is_written row = false
 
 -- the first word
@@ -22,12 +26,15 @@ abbrev pub word_at : Row → List ℕ
 word_at (Datum width marked stamped) = codes "data "
 word_at (Flag stamped) = codes "flag "
 word_at (Trigger stamped) = codes "trig "
+word_at MasterError = codes "merr "
+word_at GlobalError = codes "gerr "
 word_at row = codes "nullts "
 
--- only a datum and a flag have a place
+-- only a datum, a flag and an error of a master have a place
 abbrev pub is_placed : Row → Bool
 is_placed (Datum width marked stamped) = true
 is_placed (Flag stamped) = true
+is_placed MasterError = true
 is_placed row = false
 
 abbrev pub place_at : Row → Place → List ℕ
@@ -37,6 +44,7 @@ place_at row place = if is_placed row then place_text place else []
 abbrev pub width_at : Row → List ℕ
 width_at (Datum width marked stamped) = codes " " ++ (width_text width ++ codes " ")
 width_at (Flag stamped) = codes " "
+width_at MasterError = codes " "
 width_at row = []
 
 -- what is after the value, before the timestamp
@@ -44,6 +52,15 @@ abbrev pub mark_at : Row → List ℕ
 mark_at (Datum width marked stamped) = codes " " ++ (mark_text marked ++ codes " ")
 mark_at (Trigger stamped) = codes " "
 mark_at row = []
+
+-- only an error has no timestamp
+abbrev pub is_timed : Row → Bool
+is_timed MasterError = false
+is_timed GlobalError = false
+is_timed row = true
+
+abbrev pub stamp_at : Row → Stamp → List ℕ
+stamp_at row stamp = if is_timed row then stamp_text stamp else []
 
 -- the text of an item, where there is one, and its line
 abbrev pub said_text : Option StpItem → List ℕ

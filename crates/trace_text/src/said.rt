@@ -1,5 +1,5 @@
-//! The lines of what STP packets say, from their parts. Those of data, flags, triggers and NULL_TS, which are most, are
-//! put with no branch by what the packet is.
+//! The lines of what STP packets say, from their parts. Those of data, flags, triggers, NULL_TS and errors, which are
+//! most, are put with no branch by what the packet is.
 
 ghost use Rattle.std.specs.Prelude.{◌≡◌, ◌+◌, ◌*◌, ◌/◌, ◌≤◌, ◌<◌, ◌++◌, ◌==◌, true, length, Some};
 ghost use Rattle.std.specs.Option.{is_some};
@@ -8,7 +8,7 @@ ghost use Rattle.stp_grammar.specs.Said.{said_item, IsProperSaid};
 ghost use Rattle.stp_grammar.specs.declared.item.StpItem.{StpItem};
 ghost use Rattle.trace_text.specs.Digits.{hundreds_of, place_of};
 ghost use Rattle.trace_text.specs.LineText.{event_line, stp_event};
-ghost use Rattle.trace_text.specs.SaidText.{is_written, is_placed, said_text, said_line};
+ghost use Rattle.trace_text.specs.SaidText.{is_written, is_placed, is_timed, said_text, said_line};
 ghost use Rattle.trace_text.specs.declared.remark.Remark.TheVariants.{None as NoRemark};
 ghost use Rattle.trace_text.specs.Puts.{Puts};
 
@@ -17,9 +17,10 @@ use crate::lengths::{few_digits, few_half_digits, few_id_digits};
 use crate::lines::{EVENT_ROOM, put_half, put_source, put_stp_line};
 use crate::room::{ITEM_ROOM, put_byte, put_part};
 use crate::said_tables::{
-    DIGIT_COUNTS, MARK_LENS, MARKS, PLACE_COUNTS, WIDTH_LENS, WIDTHS, WORD_LENS, WORDS, WRITTEN,
+    DIGIT_COUNTS, MARK_LENS, MARKS, PLACE_COUNTS, STAMP_COUNTS, WIDTH_LENS, WIDTHS, WORD_LENS,
+    WORDS, WRITTEN,
 };
-use crate::stp::{put_nibbles, put_stamp};
+use crate::stp::{put_nibbles, put_stamp_times};
 use stp_grammar::said::Said;
 use trace_stream::{OUTLET_ROOM, Outlet, TEXT_ROOM, Text};
 use trace_values::SourceId;
@@ -44,6 +45,17 @@ fn place_count(number: u8) -> usize
     counts[number as usize] as usize
 }
 
+/// How many timestamps the line has: 1 or 0.
+#[inline(always)]
+fn stamp_count(number: u8) -> usize
+    requires { number < 35 }
+    ensures timed { (result == 1) ≡ is_timed (row_at number) }
+    ensures few { result ≤ 1 }
+{
+    let counts = STAMP_COUNTS;
+    counts[number as usize] as usize
+}
+
 /// How many hexadecimal digits the value has.
 #[inline(always)]
 fn digit_count(number: u8) -> u8
@@ -56,7 +68,7 @@ fn digit_count(number: u8) -> u8
     counts[number as usize]
 }
 
-/// Puts a datum, a flag, a trigger or a NULL_TS, whose place is kept.
+/// Puts a datum, a flag, a trigger, a NULL_TS or an error, whose place is kept.
 #[inline(always)]
 fn put_said(room: &mut [u8], from: usize, digits: &Digits, said: Said) -> usize
     requires proper { IsProperSaid said }
@@ -73,11 +85,11 @@ fn put_said(room: &mut [u8], from: usize, digits: &Digits, said: Said) -> usize
     let from = put_part(room, from, WIDTHS, 8, WIDTH_LENS, number);
     let from = put_nibbles(room, from, digit_count(number), said.payload);
     let from = put_part(room, from, MARKS, 4, MARK_LENS, number);
-    put_stamp(room, from, said.stamp)
+    put_stamp_times(room, from, said.stamp, stamp_count(number))
 }
 
-/// The line of a datum, a flag, a trigger or a NULL_TS, at an offset whose digits but for the last two are kept, as is
-/// its place.
+/// The line of a datum, a flag, a trigger, a NULL_TS or an error, at an offset whose digits but for the last two are
+/// kept, as is its place.
 #[derive(Drop)]
 pub(crate) struct SaidLine<'a> {
     pub(crate) digits: &'a Digits,

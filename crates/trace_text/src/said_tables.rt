@@ -1,44 +1,44 @@
-//! How the lines of data, flags, triggers and NULL_TS are spelt, by the numbers of their rows in the table of opcodes.
-//! What the tables hold where other rows are is of no account.
+//! How the lines of data, flags, triggers, NULL_TS and errors are spelt, by the numbers of their rows in the table of
+//! opcodes. What the tables hold where other rows are is of no account.
 
 /// These rows, a bit for each number.
-pub(crate) const WRITTEN: u64 = 0b1_1101_1111_1111_1100_0111_1111_1111_0000;
+pub(crate) const WRITTEN: u64 = 0b1_1101_1111_1111_1101_0111_1111_1111_0100;
 
 /// The word of each row with a space after it, in eight bytes.
 pub(crate) const WORDS: &[u8] = b"\
-    ................................data    data    data    data    data    data    \
-    data    data    data    data    flag    ........................data    data    \
+    ................merr    ........data    data    data    data    data    data    \
+    data    data    data    data    flag    ........gerr    ........data    data    \
     data    data    data    data    data    data    data    data    flag    ........\
     nullts  trig    trig    ................";
 
 /// How many of these bytes there are.
 pub(crate) const WORD_LENS: &[u8] = &[
-    0, 0, 0, 0, 5, 5, 5, 5, 5, 5, 5, 5, 5, 5, 5, 0, 0, 0, 5, 5, 5, 5, 5, 5, 5, 5, 5, 5, 5, 0, 7, 5,
+    0, 0, 5, 0, 5, 5, 5, 5, 5, 5, 5, 5, 5, 5, 5, 0, 5, 0, 5, 5, 5, 5, 5, 5, 5, 5, 5, 5, 5, 0, 7, 5,
     5, 0, 0,
 ];
 
 /// How many places the line has: 1 or 0.
 pub(crate) const PLACE_COUNTS: &[u8] = &[
-    0, 0, 0, 0, 1, 1, 1, 1, 1, 1, 1, 1, 1, 1, 1, 0, 0, 0, 1, 1, 1, 1, 1, 1, 1, 1, 1, 1, 1, 0, 0, 0,
+    0, 0, 1, 0, 1, 1, 1, 1, 1, 1, 1, 1, 1, 1, 1, 0, 0, 0, 1, 1, 1, 1, 1, 1, 1, 1, 1, 1, 1, 0, 0, 0,
     0, 0, 0,
 ];
 
-/// What is after the place, in eight bytes: a datum's width between spaces, or a flag's space.
+/// What is after the place, in eight bytes: a datum's width between spaces, or the space of a flag or an error.
 pub(crate) const WIDTHS: &[u8] = b"\
-    ................................ u8      u16     u32     u64     u8      u16    \
+    ................        ........ u8      u16     u32     u64     u8      u16    \
     \x20u32     u64     u4      u4             ........................ u8      u16    \
     \x20u32     u64     u8      u16     u32     u64     u4      u4             ........\
     \x20                       ................";
 
 /// How many of these bytes there are.
 pub(crate) const WIDTH_LENS: &[u8] = &[
-    0, 0, 0, 0, 4, 5, 5, 5, 4, 5, 5, 5, 4, 4, 1, 0, 0, 0, 4, 5, 5, 5, 4, 5, 5, 5, 4, 4, 1, 0, 0, 0,
+    0, 0, 1, 0, 4, 5, 5, 5, 4, 5, 5, 5, 4, 4, 1, 0, 0, 0, 4, 5, 5, 5, 4, 5, 5, 5, 4, 4, 1, 0, 0, 0,
     0, 0, 0,
 ];
 
 /// How many hexadecimal digits the value has.
 pub(crate) const DIGIT_COUNTS: &[u8] = &[
-    0, 0, 0, 0, 2, 4, 8, 16, 2, 4, 8, 16, 1, 1, 0, 0, 0, 0, 2, 4, 8, 16, 2, 4, 8, 16, 1, 1, 0, 0,
+    0, 0, 2, 0, 2, 4, 8, 16, 2, 4, 8, 16, 1, 1, 0, 0, 2, 0, 2, 4, 8, 16, 2, 4, 8, 16, 1, 1, 0, 0,
     0, 2, 2, 0, 0,
 ];
 
@@ -51,4 +51,10 @@ pub(crate) const MARKS: &[u8] = b"\
 pub(crate) const MARK_LENS: &[u8] = &[
     0, 0, 0, 0, 3, 3, 3, 3, 3, 3, 3, 3, 3, 3, 0, 0, 0, 0, 3, 3, 3, 3, 3, 3, 3, 3, 3, 3, 0, 0, 0, 1,
     1, 0, 0,
+];
+
+/// How many timestamps the line has: 1, or 0 where it is an error's.
+pub(crate) const STAMP_COUNTS: &[u8] = &[
+    1, 1, 0, 1, 1, 1, 1, 1, 1, 1, 1, 1, 1, 1, 1, 1, 0, 1, 1, 1, 1, 1, 1, 1, 1, 1, 1, 1, 1, 1, 1, 1,
+    1, 1, 1,
 ];

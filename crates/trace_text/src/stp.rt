@@ -1,6 +1,7 @@
 //! The texts of the items of a system trace.
 
-ghost use Rattle.std.specs.Prelude.{◌≡◌, ◌+◌, ◌/◌, ◌^◌, ◌≤◌, ◌<◌, ◌++◌, ◌∷◌, [], length, codes, decimal};
+ghost use Rattle.std.specs.Prelude.{◌≡◌, ◌+◌, ◌/◌, ◌^◌, ◌≤◌, ◌<◌, ◌++◌, ◌∷◌, ◌==◌, [], length, codes, decimal};
+ghost use Rattle.std.specs.Prelude.{if◌then◌else◌};
 ghost use Rattle.hex.specs.Hex.{encode_lower};
 ghost use Rattle.stp_grammar.specs.Proper.{bits_of, IsProperItem, IsProperStamp};
 ghost use Rattle.stp_grammar.specs.declared.item.StpItem.TheVariants.{Trigger};
@@ -93,6 +94,18 @@ pub(crate) fn put_stamp(room: &mut [u8], from: usize, stamp: Stamp) -> usize
             put_nibbles(room, from, word_nibbles(size), word)
         }
     }
+}
+
+/// Puts a timestamp once, or never: so many times. No branch depends on which it is.
+#[inline(always)]
+pub(crate) fn put_stamp_times(room: &mut [u8], from: usize, stamp: Stamp, times: usize) -> usize
+    requires proper { IsProperStamp stamp }
+    requires times { times ≤ 1 }
+    requires room { from + STAMP_ROOM ≤ length room.old }
+    ensures { Puts room.old room.new from result STAMP_ROOM (if times == 1 then stamp_text stamp else []) }
+{
+    let end = put_stamp(room, from, stamp);
+    from + (end - from) * times
 }
 
 /// Puts whether a datum is marked, between spaces.

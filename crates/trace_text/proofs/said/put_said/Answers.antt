@@ -2,7 +2,7 @@ use Rattle.std.proofs.Common.{Bool, ℕ, ap, cond, [], arith}
 use Rattle.stp_grammar.specs.Opcodes.{row_at}
 use Rattle.stp_grammar.specs.Said.{said_item}
 use Rattle.trace_text.specs.HexDigits.{hex_digits}
-use Rattle.trace_text.specs.StpText.{place_text}
+use Rattle.trace_text.specs.StpText.{place_text, stamp_text}
 use Rattle.trace_text.proofs.Putting.{named, within, loose, then}
 use Rattle.trace_text.proofs.SaidTables.{parts_are, parts_few}
 use Rattle.trace_text.proofs.SaidTexts.{written_text}
@@ -30,5 +30,6 @@ returns c =
     let value = named (loose c.put_nibbles-from.ensures) (ap (λ (k : ℕ). hex_digits k said.payload) c.digit_count.ensures.count) in
     let mark = named c.put_part-from-3.ensures parts.2 in
     let few = c.digit_count.ensures.few in
-    within (then word (then place (then width (then value (then mark c.put_stamp.ensures))))) (omega arith)
+    let stamp = named c.put_stamp_times.ensures (ap (λ (t : Bool). cond t (stamp_text said.stamp) []) c.stamp_count.ensures.timed) in
+    within (then word (then place (then width (then value (then mark stamp))))) (omega arith)
     (written_text said.place said.stamp (row_at said.number) said.payload written c.requires.proper.payload)
