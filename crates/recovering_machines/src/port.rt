@@ -81,9 +81,7 @@ impl RecoveringPort {
     pub fn feed_block(&mut self, at: u64, piece: &[u8], out: &mut ArrayVec<Cell, 15>) -> Taken
         requires out { out.old.items ≡ [] }
         requires some { 0 < length piece.now }
-        requires offset { at ≤ PART_ROOM }
-        requires length { length piece.now ≤ PART_ROOM }
-        requires room { total_of self.old ≤ PART_ROOM }
+        requires room { (at ≤ PART_ROOM) × (length piece.now ≤ PART_ROOM) × (total_of self.old ≤ PART_ROOM) }
         ensures bytes { (0 < result.bytes) × (result.bytes ≤ length piece.now) }
         ensures stops { result.step ≡ Quiet → result.bytes ≡ length piece.now }
         ensures list { (r : Stretches) → Stands self.old r →

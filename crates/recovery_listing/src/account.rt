@@ -57,11 +57,9 @@ pub trait Account {
         notes: &mut Outlet,
     ) -> usize
         requires live { live self.old (count_of engine.old) }
-        requires paid { debt self.old ≡ Paid }
-        requires some { 0 < length piece.now }
+        requires idle { (debt self.old ≡ Paid) × (notes.old ≡ []) }
+        requires piece { (0 < length piece.now) × (count_of engine.old + length piece.now ≤ GREATEST_CAPTURE) }
         requires room { length outlet.old + ACTION_ROOM ≤ OUTLET_ROOM }
-        requires silent { notes.old ≡ [] }
-        requires count { count_of engine.old + length piece.now ≤ GREATEST_CAPTURE }
         ensures front { TakesSome piece.now result }
         ensures live { live self.new (count_of engine.new) }
         ensures paid { debt self.new ≡ Paid }

@@ -98,10 +98,10 @@ pub trait Finds: Machine {
         ensures same { reads self.new ≡ reads self.old }
         ensures alike { ReadsAlike (source self.old) (source self.new) }
         ensures live { Self.live self.new ≡ true }
-        ensures bytes { IfSome result (λ taken. (0 < taken.bytes) × (taken.bytes ≤ length bytes.now)) }
+        ensures bytes { IfSome result (λ taken. (0 < taken.bytes) × (taken.bytes ≤ length bytes.now)
+            × IfSome taken.item PacketFits) }
         ensures passes { IfSome result (λ taken. PassesOver (reads self.old) (Self.stands self.old)
             (Self.stands self.new) (take taken.bytes bytes.now) (item_at taken.half taken.item)) }
-        ensures fits { IfSome result (λ taken. IfSome taken.item PacketFits) }
         ensures few { IfSome result (λ taken. Self.held_units self.new + Self.skipped_units self.new ≤
             Self.held_units self.old + Self.skipped_units self.old + 2 * taken.bytes) }
         ensures none { result ≡ None →
