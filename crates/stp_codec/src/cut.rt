@@ -2,12 +2,13 @@
 //!
 //! They are read so for speed alone: the decoder reads nibble by nibble what is not found here.
 
-ghost use Rattle.std.specs.Prelude.{◌≡◌, ◌+◌, ◌*◌, ◌^◌, ◌<◌, ◌≤◌, true, length, IfSome};
+ghost use Rattle.std.specs.Prelude.{◌≡◌, ℕ, ◌+◌, ◌*◌, ◌^◌, ◌<◌, ◌≤◌, true, length, IfSome};
 ghost use Rattle.stp_codec.specs.Names.{Go, Start, Second, Third, Run, Size, Word, line_of, row_at, is_sound, count_of};
 ghost use Rattle.stp_codec.specs.Names.{begin, COUNT_ROOM};
-ghost use Rattle.stp_codec.specs.Cuts.{CutsFrom, CutsInto, IsProperCut, payload_from};
+ghost use Rattle.stp_codec.specs.Cuts.{CutsFrom, CutsInto, IsProperCut, Leads, payload_from};
+ghost use Rattle.stp_codec.specs.Wholes.{between, nibbles_in};
 
-use crate::numbers::{nibble_of, number_from};
+use crate::numbers::{nibble_of, nibbles_from, number_from};
 use stp_grammar::opcode::{Head, opcode_of, payload_at, row_at, stamped_at};
 use stp_grammar::packet::{Order, Row, StpPacket};
 use stp_grammar::partial::Partial;
@@ -167,6 +168,23 @@ fn cut_opcode(order: Order, number: u8, bytes: &[u8], start: usize) -> Option<Cu
     )
 }
 
+/// How many nibbles F are seen at once from this nibble on: 16, as behind the first two of an ASYNC, or none.
+#[inline(always)]
+fn run_at_once(bytes: &[u8], start: usize) -> usize
+    requires there { start ≤ 2 * length bytes.now }
+    ensures few { result ≤ 16 }
+    ensures there { start + result ≤ 2 * length bytes.now }
+    ensures leads { (order : Order) (s : Partial) (count : ℕ) →
+        Leads order s (between (nibbles_in bytes.now) 0 start) (Go (Run count)) →
+        Leads order s (between (nibbles_in bytes.now) 0 (start + result)) (Go (Run (count + result))) }
+{
+    if start / 2 + 9 <= bytes.len() && nibbles_from(bytes, start) == u64::MAX {
+        16
+    } else {
+        0
+    }
+}
+
 /// From the nibble after this many nibbles F, at least two. None where one is a fault.
 #[inline(always)]
 fn cut_run(before: u64, bytes: &[u8], start: usize) -> Option<Cut>
@@ -176,8 +194,9 @@ fn cut_run(before: u64, bytes: &[u8], start: usize) -> Option<Cut>
     ensures cuts { (order : Order) → CutsFrom order bytes.now start (Go (Run before)) result }
     ensures proper { IfSome result IsProperCut }
 {
-    let mut count = before;
-    for index in start..2 * bytes.len() {
+    let seen = run_at_once(bytes, start);
+    let mut count = before + seen as u64;
+    for index in start + seen..2 * bytes.len() {
         match nibble_of(bytes, index) {
             15 => count += 1,
             0 if count >= 21 => {

@@ -115,7 +115,7 @@ fn word_from(bytes: &[u8], first: usize) -> u64
 
 /// The number that the 16 nibbles from this one on make, the first of them the least significant.
 #[inline(always)]
-fn nibbles_from(bytes: &[u8], start: usize) -> u64
+pub fn nibbles_from(bytes: &[u8], start: usize) -> u64
     requires { start / 2 + 9 ≤ length bytes.now }
     ensures { result ≡ number Lsn (between (nibbles_in bytes.now) start (start + 16)) }
 {

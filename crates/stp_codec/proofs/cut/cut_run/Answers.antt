@@ -17,6 +17,15 @@ returns-in-0-clause-cuts c = λ order s k.
           (run_ends order c.loop-index.count search) (c.loop-index.invariant.leads order s k),
     )
 
+pub loop-index-init : goal.loop-index-init
+loop-index-init c =
+    let some = c.requires.some in
+    record {
+      some = omega (arith, some);
+      count = omega arith;
+      leads = λ order s k. c.run_at_once-seen.ensures.leads order s c.args.before k;
+    }
+
 pub loop-index-preserved : goal.loop-index-preserved
 loop-index-preserved c =
     let a = c.args in
