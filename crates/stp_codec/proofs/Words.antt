@@ -3,7 +3,7 @@ use Rattle.std.proofs.Common.{◌≡◌, ℕ, zero, suc, ◌+◌, ◌-◌, ◌*�
 use Rattle.std.proofs.Common.{take, drop, get_or, refl, sym, ◌∙◌, ap, subst, arith}
 use Rattle.std.specs.Prelude.{bit_and, MatchOption, Option, Some}
 use Rattle.std.specs.Int.{w64, from_le_bytes, from_be_bytes, to_le_bytes}
-use Rattle.std.proofs.Math.Seq.{drop-nil, take-length}
+use Rattle.std.proofs.Math.Seq.{drop-nil}
 use Rattle.std.proofs.lemmas.List.{get_or-drop, length-drop}
 use Rattle.std.proofs.lemmas.Nat.{and_block, and_mask, le_bytes_8}
 use Rattle.stp_codec.specs.Names.{Lsn, Msn, number}
@@ -28,8 +28,13 @@ pub of_some : {A : Type 0} (P : Type 0) (Q : A → Type 0) (o : Option A) (x : A
 of_some {A} P Q o x e m = subst (λ (o : Option A). MatchOption o P Q) e m
 
 -- bytes from one on, and their nibbles
-pub all_from : (first : ℕ) (bytes : List ℕ) → take (length bytes - first) (drop first bytes) ≡ drop first bytes
-all_from first bytes = ap (λ n. take n (drop first bytes)) (sym (length-drop first bytes)) ∙ take-length (drop first bytes)
+take_twice : (n : ℕ) (l : List ℕ) → take n (take n l) ≡ take n l
+take_twice zero l = refl
+take_twice (suc n) [] = refl
+take_twice (suc n) (b ∷ l) = ap (λ r. b ∷ r) (take_twice n l)
+
+pub eight_from : (first : ℕ) (bytes : List ℕ) → take 8 (take (first + 8 - first) (drop first bytes)) ≡ take 8 (drop first bytes)
+eight_from first bytes = ap (λ n. take 8 (take n (drop first bytes))) (let e : first + 8 - first ≡ 8 = omega arith in e) ∙ take_twice 8 (drop first bytes)
 
 drop_nibbles : (first : ℕ) (bytes : List ℕ) → drop (2 * first) (nibbles_in bytes) ≡ nibbles_in (drop first bytes)
 drop_nibbles zero bytes = refl

@@ -110,7 +110,7 @@ fn word_from(bytes: &[u8], first: usize) -> u64
     requires { first + 8 ≤ length bytes.now }
     ensures { result ≡ number Lsn (between (nibbles_in bytes.now) (2 * first) (2 * first + 16)) }
 {
-    u64::from_le_bytes(*bytes[first..].first_chunk::<8>().unwrap())
+    u64::from_le_bytes(*bytes[first..first + 8].first_chunk::<8>().unwrap())
 }
 
 /// The number that the 16 nibbles from this one on make, the first of them the least significant.
@@ -137,7 +137,7 @@ fn turned(nibbles: u64) -> u64
 }
 
 /// The number that the next `more` nibbles make, the first of them the most significant. No branch depends on how
-/// many they are.
+/// many they are: in two shifts all of the others go, be they 16.
 #[inline(always)]
 pub fn number_at_once(bytes: &[u8], start: usize, more: u8) -> u64
     requires few { more ≤ 16 }
@@ -146,11 +146,8 @@ pub fn number_at_once(bytes: &[u8], start: usize, more: u8) -> u64
     ensures fits { result < 16 ^ more }
 {
     let number = turned(nibbles_from(bytes, start));
-    if more == 0 {
-        0
-    } else {
-        number >> (64 - 4 * u32::from(more))
-    }
+    let half = 32 - 2 * u32::from(more);
+    number >> half >> half
 }
 
 /// The number that `count` nibbles make with the next `more`, where they made `value` without them.
