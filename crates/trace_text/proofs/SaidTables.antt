@@ -1,12 +1,14 @@
 -- The tables hold the parts of the texts of their rows.
-use Rattle.std.proofs.Common.{◌≡◌, ℕ, ◌*◌, ◌/◌, ◌%◌, ◌^◌, ◌<◌, ◌≤◌, List, take, drop, get_or, Bool, true, false, not, refl}
-use Rattle.std.specs.Prelude.{◌==◌, ◌||◌, nat_le}
+use Rattle.std.proofs.Common.{◌≡◌, ℕ, ◌*◌, ◌/◌, ◌%◌, ◌^◌, ◌<◌, ◌≤◌, List, length, take, drop, get_or, Bool, true, false, not, refl, arith}
+use Rattle.std.specs.Prelude.{◌==◌, ◌||◌, nat_le, decimal}
 use Rattle.std.proofs.lemmas.Bool.{eqb-true, leb-true}
+use Rattle.std.proofs.lemmas.Fmt.{length-decimal-le}
 use Rattle.stp_grammar.specs.declared.packet.Row.{Row}
+use Rattle.stp_grammar.specs.declared.packet.Row.TheVariants.{Frequency}
 use Rattle.stp_grammar.specs.Opcodes.{line_of, row_at}
 use Rattle.stp_grammar.proofs.Tables.{under, below, same, is_same}
 use Rattle.trace_text.specs.declared.said_tables.TheConstants.{WRITTEN, PLACE_COUNTS, STAMP_COUNTS, WORDS, WORD_LENS, WIDTHS, WIDTH_LENS, DIGIT_COUNTS, MARKS, MARK_LENS}
-use Rattle.trace_text.specs.SaidText.{is_written, is_placed, is_timed, word_at, width_at, mark_at}
+use Rattle.trace_text.specs.SaidText.{is_written, is_placed, is_counted, is_timed, word_at, width_at, mark_at}
 use Rattle.std.specs.Str.{bytes_eq}
 use Rattle.trace_text.proofs.DigitTables.{same_bytes}
 
@@ -14,6 +16,11 @@ use Rattle.trace_text.proofs.DigitTables.{same_bytes}
 asked : (a b : Bool) → a ≡ true → (not a || b) ≡ true → b ≡ true
 asked true b e f = f
 asked false b e f = cc
+
+-- a test of the rows that are not put otherwise
+other : (a b : Bool) → a ≡ false → (a || b) ≡ true → b ≡ true
+other true b e f = cc
+other false b e f = f
 
 -- no row has more in a table than this
 few_at : (most : ℕ) (counts : List ℕ) → under (λ k. nat_le (get_or counts k 0) most) 35 ≡ true → (n : ℕ) → n < 35 → get_or counts n 0 ≤ most
@@ -47,9 +54,24 @@ pub stamps_few : (n : ℕ) → n < 35 → get_or STAMP_COUNTS.now n 0 ≤ 1
 unfolding under
 stamps_few = few_at 1 STAMP_COUNTS.now refl
 
-pub digit_count_is : (n : ℕ) → n < 35 → is_written (row_at n) ≡ true → get_or DIGIT_COUNTS.now n 0 ≡ (line_of (row_at n)).payload
+-- the rows whose value is in decimal are the last two, and their value has 32 bits
+pub counted_is : (n : ℕ) → n < 35 → nat_le 33 n ≡ is_counted (row_at n)
+unfolding under same
+counted_is n l = is_same _ _ (below (λ k. same (nat_le 33 k) (is_counted (row_at k))) 35 n l refl)
+
+pub counted_few : (row : Row) (v : ℕ) → is_counted row ≡ true → v < 16 ^ (line_of row).payload → length (decimal v) ≤ 10
+counted_few (Frequency true) v e h = length-decimal-le 10 v (omega arith) (omega arith) (omega arith)
+counted_few (Frequency false) v e h = length-decimal-le 10 v (omega arith) (omega arith) (omega arith)
+counted_few row v e h = cc
+
+-- the table has how many digits the value has, where they are hexadecimal
+abbrev has_digits : ℕ → Bool
+has_digits k = not (is_written (row_at k)) || (is_counted (row_at k) || (get_or DIGIT_COUNTS.now k 0 == (line_of (row_at k)).payload))
+
+pub digit_count_is : (n : ℕ) → n < 35 → is_written (row_at n) ≡ true → is_counted (row_at n) ≡ false →
+    get_or DIGIT_COUNTS.now n 0 ≡ (line_of (row_at n)).payload
 unfolding under
-digit_count_is n l w = eqb-true _ _ (asked _ _ w (below (λ k. not (is_written (row_at k)) || (get_or DIGIT_COUNTS.now k 0 == (line_of (row_at k)).payload)) 35 n l refl))
+digit_count_is n l w h = eqb-true _ _ (other _ _ h (asked _ _ w (below has_digits 35 n l refl)))
 
 pub digits_few : (n : ℕ) → n < 35 → get_or DIGIT_COUNTS.now n 0 ≤ 16
 unfolding under

@@ -6,7 +6,7 @@ use Rattle.std.specs.Int.{byte_at}
 use Rattle.std.proofs.Math.Nat.{pow-zero}
 use Rattle.hex.specs.Hex.{encode_lower}
 use Rattle.stp_grammar.specs.declared.packet.Row.{Row}
-use Rattle.stp_grammar.specs.declared.packet.Row.TheVariants.{Datum, Flag, NullStamp, Trigger, MasterError, GlobalError}
+use Rattle.stp_grammar.specs.declared.packet.Row.TheVariants.{Datum, Flag, NullStamp, Trigger, MasterError, GlobalError, Frequency}
 use Rattle.stp_grammar.specs.declared.item.Place.{Place}
 use Rattle.stp_grammar.specs.declared.item.Stamp.{Stamp}
 use Rattle.stp_grammar.specs.declared.item.StpItem.{StpItem}
@@ -17,7 +17,7 @@ use Rattle.trace_text.specs.HexDigits.{hex_digits}
 use Rattle.trace_text.specs.Lengths.{HasDigits}
 use Rattle.trace_text.specs.LineText.{half_text, source_text}
 use Rattle.trace_text.specs.StpText.{place_text, stamp_text, stp_text}
-use Rattle.trace_text.specs.SaidText.{is_written, word_at, place_at, width_at, mark_at, stamp_at, said_text, said_line}
+use Rattle.trace_text.specs.SaidText.{is_written, word_at, place_at, width_at, value_at, mark_at, stamp_at, said_text, said_line}
 use Rattle.trace_text.proofs.HexNibbles.{encoded}
 use Rattle.trace_text.proofs.LongestLines.{stp_item}
 
@@ -31,7 +31,7 @@ byte_digits v h =
 -- the parts of a row's text, of this place, value and timestamp
 abbrev pub by_parts : Place → Stamp → Row → ℕ → List ℕ
 by_parts place stamp row v =
-    word_at row ++ (place_at row place ++ (width_at row ++ (hex_digits (line_of row).payload v ++ (mark_at row ++ stamp_at row stamp))))
+    word_at row ++ (place_at row place ++ (width_at row ++ (value_at row v ++ (mark_at row ++ stamp_at row stamp))))
 
 pub written_text : (place : Place) (stamp : Stamp) (row : Row) (v : ℕ) → is_written row ≡ true → v < 16 ^ (line_of row).payload →
     by_parts place stamp row v ≡ said_text (item_with place stamp row v)
@@ -44,6 +44,7 @@ written_text place stamp (Trigger false) v e h = ap (λ (l : List ℕ). codes "t
 written_text place stamp MasterError v e h =
     ap (λ (l : List ℕ). codes "merr " ++ (place_text place ++ (codes " " ++ l))) (append-nil (hex_digits 2 v) ∙ byte_digits v h)
 written_text place stamp GlobalError v e h = ap (λ (l : List ℕ). codes "gerr " ++ l) (append-nil (hex_digits 2 v) ∙ byte_digits v h)
+written_text place stamp (Frequency stamped) v e h = refl
 written_text place stamp row v e h = cc
 
 -- a line by its parts

@@ -1,12 +1,14 @@
--- The parts of the texts of data, flags, triggers, NULL_TS and errors, by their rows in the table of opcodes; and the
--- line of what a packet says.
-use Rattle.std.specs.Prelude.{ℕ, List, [], ◌++◌, codes, Bool, true, false, Option, Some, None, if◌then◌else◌}
+-- The parts of the texts of data, flags, triggers, frequencies, NULL_TS and errors, by their rows in the table of
+-- opcodes; and the line of what a packet says.
+use Rattle.std.specs.Prelude.{ℕ, List, [], ◌++◌, codes, decimal, Bool, true, false, Option, Some, None, if◌then◌else◌}
 use Rattle.stp_grammar.specs.declared.packet.Row.{Row}
 use Rattle.stp_grammar.specs.declared.packet.Row.TheVariants.{Datum, Flag, NullStamp, Trigger, MasterError}
-use Rattle.stp_grammar.specs.declared.packet.Row.TheVariants.{GlobalError}
+use Rattle.stp_grammar.specs.declared.packet.Row.TheVariants.{GlobalError, Frequency}
+use Rattle.stp_grammar.specs.Opcodes.{line_of}
 use Rattle.stp_grammar.specs.declared.item.Place.{Place}
 use Rattle.stp_grammar.specs.declared.item.Stamp.{Stamp}
 use Rattle.stp_grammar.specs.declared.item.StpItem.{StpItem}
+use Rattle.trace_text.specs.HexDigits.{hex_digits}
 use Rattle.trace_text.specs.LineText.{event_line, stp_event}
 use Rattle.trace_text.specs.StpText.{mark_text, place_text, stamp_text, stp_text, width_text}
 use Rattle.trace_text.specs.declared.remark.Remark.TheVariants.{None as NoRemark}
@@ -17,6 +19,7 @@ is_written (Datum width marked stamped) = true
 is_written (Flag stamped) = true
 is_written NullStamp = true
 is_written (Trigger stamped) = true
+is_written (Frequency stamped) = true
 is_written MasterError = true
 is_written GlobalError = true
 is_written row = false
@@ -26,6 +29,7 @@ abbrev pub word_at : Row → List ℕ
 word_at (Datum width marked stamped) = codes "data "
 word_at (Flag stamped) = codes "flag "
 word_at (Trigger stamped) = codes "trig "
+word_at (Frequency stamped) = codes "freq "
 word_at MasterError = codes "merr "
 word_at GlobalError = codes "gerr "
 word_at row = codes "nullts "
@@ -47,10 +51,20 @@ width_at (Flag stamped) = codes " "
 width_at MasterError = codes " "
 width_at row = []
 
+-- only a frequency's value is put in decimal
+abbrev pub is_counted : Row → Bool
+is_counted (Frequency stamped) = true
+is_counted row = false
+
+-- the value, where the row has one
+abbrev pub value_at : Row → ℕ → List ℕ
+value_at row value = if is_counted row then decimal value else hex_digits (line_of row).payload value
+
 -- what is after the value, before the timestamp
 abbrev pub mark_at : Row → List ℕ
 mark_at (Datum width marked stamped) = codes " " ++ (mark_text marked ++ codes " ")
 mark_at (Trigger stamped) = codes " "
+mark_at (Frequency stamped) = codes " "
 mark_at row = []
 
 -- only an error has no timestamp

@@ -1,21 +1,22 @@
-//! The lines of what STP packets say, from their parts. Those of data, flags, triggers, NULL_TS and errors, which are
-//! most, are put with no branch by what the packet is.
+//! The lines of what STP packets say, from their parts. Those of data, flags, triggers, frequencies, NULL_TS and
+//! errors, which are most, are put with one branch by what the packet is: whether its value is a frequency, in decimal.
 
-ghost use Rattle.std.specs.Prelude.{◌≡◌, ◌+◌, ◌*◌, ◌/◌, ◌≤◌, ◌<◌, ◌++◌, ◌==◌, true, length, Some};
+ghost use Rattle.std.specs.Prelude.{◌≡◌, ◌+◌, ◌*◌, ◌/◌, ◌^◌, ◌≤◌, ◌<◌, ◌++◌, ◌==◌, true, false, length, Some};
 ghost use Rattle.std.specs.Option.{is_some};
 ghost use Rattle.stp_grammar.specs.Opcodes.{line_of, row_at};
 ghost use Rattle.stp_grammar.specs.Said.{said_item, IsProperSaid};
 ghost use Rattle.stp_grammar.specs.declared.item.StpItem.{StpItem};
 ghost use Rattle.trace_text.specs.Digits.{hundreds_of, place_of};
 ghost use Rattle.trace_text.specs.LineText.{event_line, stp_event};
-ghost use Rattle.trace_text.specs.SaidText.{is_written, is_placed, is_timed, said_text, said_line};
+ghost use Rattle.trace_text.specs.SaidText.{is_written, is_placed, is_counted, is_timed};
+ghost use Rattle.trace_text.specs.SaidText.{value_at, said_text, said_line};
 ghost use Rattle.trace_text.specs.declared.remark.Remark.TheVariants.{None as NoRemark};
 ghost use Rattle.trace_text.specs.Puts.{Puts};
 
 use crate::digits::Digits;
 use crate::lengths::{few_digits, few_half_digits, few_id_digits};
 use crate::lines::{EVENT_ROOM, put_half, put_source, put_stp_line};
-use crate::room::{ITEM_ROOM, put_byte, put_part};
+use crate::room::{ITEM_ROOM, NUMBER_ROOM, put_byte, put_number, put_part};
 use crate::said_tables::{
     DIGIT_COUNTS, MARK_LENS, MARKS, PLACE_COUNTS, STAMP_COUNTS, WIDTH_LENS, WIDTHS, WORD_LENS,
     WORDS, WRITTEN,
@@ -56,11 +57,21 @@ fn stamp_count(number: u8) -> usize
     counts[number as usize] as usize
 }
 
+/// The value is put in decimal: these are the two rows of frequencies, the last ones.
+#[inline(always)]
+fn is_counted(number: u8) -> bool
+    requires { number < 35 }
+    ensures { result ≡ is_counted (row_at number) }
+{
+    number >= 33
+}
+
 /// How many hexadecimal digits the value has.
 #[inline(always)]
 fn digit_count(number: u8) -> u8
     requires number { number < 35 }
     requires written { is_written (row_at number) ≡ true }
+    requires hexadecimal { is_counted (row_at number) ≡ false }
     ensures count { result ≡ (line_of (row_at number)).payload }
     ensures few { result ≤ 16 }
 {
@@ -68,7 +79,23 @@ fn digit_count(number: u8) -> u8
     counts[number as usize]
 }
 
-/// Puts a datum, a flag, a trigger, a NULL_TS or an error, whose place is kept.
+/// Puts the value, of at most sixteen digits: a frequency in decimal, and another in hexadecimal.
+#[inline(always)]
+fn put_payload(room: &mut [u8], from: usize, number: u8, payload: u64) -> usize
+    requires number { number < 35 }
+    requires written { is_written (row_at number) ≡ true }
+    requires fits { payload < 16 ^ (line_of (row_at number)).payload }
+    requires room { from + NUMBER_ROOM ≤ length room.old }
+    ensures { Puts room.old room.new from result 16 (value_at (row_at number) payload) }
+{
+    if is_counted(number) {
+        put_number(room, from, payload)
+    } else {
+        put_nibbles(room, from, digit_count(number), payload)
+    }
+}
+
+/// Puts a datum, a flag, a trigger, a frequency, a NULL_TS or an error, whose place is kept.
 #[inline(always)]
 fn put_said(room: &mut [u8], from: usize, digits: &Digits, said: Said) -> usize
     requires proper { IsProperSaid said }
@@ -83,13 +110,13 @@ fn put_said(room: &mut [u8], from: usize, digits: &Digits, said: Said) -> usize
         .place
         .put_times(room, from, said.place, place_count(number));
     let from = put_part(room, from, WIDTHS, 8, WIDTH_LENS, number);
-    let from = put_nibbles(room, from, digit_count(number), said.payload);
+    let from = put_payload(room, from, number, said.payload);
     let from = put_part(room, from, MARKS, 4, MARK_LENS, number);
     put_stamp_times(room, from, said.stamp, stamp_count(number))
 }
 
-/// The line of a datum, a flag, a trigger, a NULL_TS or an error, at an offset whose digits but for the last two are
-/// kept, as is its place.
+/// The line of a datum, a flag, a trigger, a frequency, a NULL_TS or an error, at an offset whose digits but for the
+/// last two are kept, as is its place.
 #[derive(Drop)]
 pub(crate) struct SaidLine<'a> {
     pub(crate) digits: &'a Digits,

@@ -1,9 +1,8 @@
-use Rattle.std.proofs.Common.{Bool, ℕ, ap, cond, [], arith}
+use Rattle.std.proofs.Common.{Bool, ap, cond, [], arith}
 use Rattle.stp_grammar.specs.Opcodes.{row_at}
 use Rattle.stp_grammar.specs.Said.{said_item}
-use Rattle.trace_text.specs.HexDigits.{hex_digits}
 use Rattle.trace_text.specs.StpText.{place_text, stamp_text}
-use Rattle.trace_text.proofs.Putting.{named, within, loose, then}
+use Rattle.trace_text.proofs.Putting.{named, within, then}
 use Rattle.trace_text.proofs.SaidTables.{parts_are, parts_few}
 use Rattle.trace_text.proofs.SaidTexts.{written_text}
 use Rattle.trace_text.proofs.said.put_said.Goals as goal
@@ -27,9 +26,7 @@ returns c =
     let word = named c.put_part-from.ensures parts.0 in
     let place = named c.put_times-from.ensures (ap (λ (t : Bool). cond t (place_text said.place) []) c.place_count.ensures.placed) in
     let width = named c.put_part-from-2.ensures parts.1 in
-    let value = named (loose c.put_nibbles-from.ensures) (ap (λ (k : ℕ). hex_digits k said.payload) c.digit_count.ensures.count) in
     let mark = named c.put_part-from-3.ensures parts.2 in
-    let few = c.digit_count.ensures.few in
     let stamp = named c.put_stamp_times.ensures (ap (λ (t : Bool). cond t (stamp_text said.stamp) []) c.stamp_count.ensures.timed) in
-    within (then word (then place (then width (then value (then mark stamp))))) (omega arith)
+    within (then word (then place (then width (then c.put_payload-from.ensures (then mark stamp))))) (omega arith)
     (written_text said.place said.stamp (row_at said.number) said.payload written c.requires.proper.payload)
