@@ -1,11 +1,13 @@
 -- What the receiver of `show` is given adds up: proofs that its `impl` cites.
-use Rattle.std.proofs.Common.{◌∙◌, ℕ, ◌++◌, [], List, sym, ap, subst, append_assoc, append-nil, refl}
-use Rattle.capture_actions.specs.Names.{Event, Packet}
+use Rattle.std.proofs.Common.{◌≡◌, ◌∙◌, ℕ, ◌++◌, [], List, Bool, true, false, Option, None, Some, sym, ap, subst, append_assoc, append-nil, refl}
+use Rattle.capture_actions.specs.Names.{Event, Packet, Plan, SourceKind, Stp}
+use Rattle.source_events.specs.declared.plan.SourceKind.TheVariants.{Itm}
+use Rattle.capture_actions.specs.Faulty.{is_stp}
 use Rattle.capture_actions.specs.declared.list_plan.ListPlan.{ListPlan}
 use Rattle.capture_actions.specs.declared.lister.Lister.{Lister}
-use Rattle.capture_actions.specs.Filter.{plan_by, HasSeen}
+use Rattle.capture_actions.specs.Filter.{ChoiceWindow, bounds_in, plan_by, HasSeen}
 use Rattle.capture_actions.specs.LineLaws.{lines_more}
-use Rattle.capture_actions.specs.Lister.{gets}
+use Rattle.capture_actions.specs.Lister.{Lists, gets}
 use Rattle.capture_actions.specs.Listing.{lines_from}
 use Rattle.capture_actions.specs.SourceClocks.{AllStand}
 use Rattle.source_merge.specs.Giving.{AddsUp}
@@ -42,3 +44,21 @@ gets_more a b c es fs g h =
 
 pub adds_up : AddsUp gets
 adds_up = record { none = gets_none; more = gets_more }
+
+no_window : (w : Option ChoiceWindow) → bounds_in w ≡ None → w ≡ None
+no_window None e = refl
+no_window (Some w) e = cc
+
+lists_same : (a b : Lister × List ℕ) (es : List (Event Packet)) (source : ℕ) (stp : Bool) → gets a es b →
+    (a.0.filter.window ≡ None) × (is_stp a.0.plan (Some source) ≡ stp) →
+    (b.0.filter.window ≡ None) × (is_stp b.0.plan (Some source) ≡ stp)
+lists_same a b es source stp g t = (
+  no_window b.0.filter.window (ap (λ (p : ListPlan). p.window) g.asked ∙ ap bounds_in t.0),
+  ap (λ (p : Plan). is_stp p (Some source)) g.kept ∙ t.1,
+)
+
+-- what is listed from its parts is so after any events
+pub lists_on : (a b : Lister × List ℕ) (es : List (Event Packet)) (source : ℕ) (kind : SourceKind) → gets a es b →
+    Lists a.0 source kind → Lists b.0 source kind
+lists_on a b es source Itm g t = lists_same a b es source false g t
+lists_on a b es source Stp g t = lists_same a b es source true g t

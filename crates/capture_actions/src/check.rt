@@ -47,6 +47,8 @@ impl Receiver for Ignored {
 
     ghost adds_up = { adds_up };
 
+    ghost takes_on = { λ a b es source kind g t. t };
+
     #[inline(always)]
     fn give(&mut self, _to: &mut (), _event: Event<Packet>) {}
 

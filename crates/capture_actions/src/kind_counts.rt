@@ -94,6 +94,8 @@ impl Receiver for KindCounts {
 
     ghost adds_up = { adds_up };
 
+    ghost takes_on = { λ a b es source kind g t. t };
+
     #[inline(always)]
     fn give(&mut self, _to: &mut (), event: Event<Packet>) {
         self.add_event(&event);

@@ -367,7 +367,7 @@ fn trigger_of(at: u64, source: SourceId, byte: u8) -> Event<Packet>
 /// An event goes to the outlet as its line, if it is listed.
 impl Receiver for Lister {
     ghost use Rattle.capture_actions.specs.Lister.{gets, room, Lists};
-    ghost use Rattle.capture_actions.specs.ListerLaws.{adds_up};
+    ghost use Rattle.capture_actions.specs.ListerLaws.{adds_up, lists_on};
 
     type To = Outlet;
 
@@ -378,6 +378,8 @@ impl Receiver for Lister {
     ghost takes = { Lists };
 
     ghost adds_up = { adds_up };
+
+    ghost takes_on = { lists_on };
 
     /// What comes so is seldom: the notice of a lock.
     #[inline(always)]

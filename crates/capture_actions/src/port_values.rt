@@ -81,6 +81,8 @@ impl Receiver for PortValues {
 
     ghost adds_up = { adds_up };
 
+    ghost takes_on = { λ a b es source kind g t. t };
+
     #[inline(always)]
     fn give(&mut self, outlet: &mut Outlet, event: Event<Packet>) {
         if let What::Packet(Packet::Itm(packet)) = &event.what {

@@ -39,7 +39,7 @@ pub trait Receiver {
     fn events_left(&self, to: &Self::To) -> usize
         ensures { result ≡ room (self.now, to.now) };
 
-    /// Packets of this source, which is of this kind, may be given as what they say. It is asked before a packet is
+    /// Packets of this source, which is of this kind, may be given as what they say. It is asked before packets are
     /// read: so what is read goes straight into what is made of it.
     fn takes_told(&self, source: SourceId, kind: SourceKind) -> bool
         ensures { IsTrue result ↔ takes self.now source kind };
@@ -75,6 +75,9 @@ pub trait Receiver {
 
     // given some events and then more, it was given all of them
     ghost adds_up: { AddsUp gets };
+    // what it was given makes no difference to what it may be given so
+    ghost takes_on: { (a b : Self × Self.To) (es : List (Event Packet)) (source : ℕ) (kind : SourceKind) →
+        gets a es b → takes a.0 source kind → takes b.0 source kind };
 }
 
 /// A list of events, which has them in the order in which they came.
@@ -89,6 +92,8 @@ impl Receiver for Events {
     ghost room = { list_room };
 
     ghost adds_up = { list_adds_up };
+
+    ghost takes_on = { λ a b es source kind g t. t };
 
     #[inline(always)]
     fn events_left(&self, _to: &()) -> usize {

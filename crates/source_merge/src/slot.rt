@@ -152,20 +152,19 @@ fn give_told<V: Receiver>(
     }
 }
 
-/// Looks for the end of the unfinished packet, as the machine does, where packets of this source may be given as what
-/// they say. Else nothing is known of the bytes.
+/// Looks for the end of the unfinished packet, as the machine does, where packets may be given as what they say. Else
+/// nothing is known of the bytes.
 #[inline(always)]
-fn look<M: Finds, V: Receiver>(
+fn look<M: Finds>(
     machine: &mut M,
-    out: &V,
-    source: SourceId,
+    takes_told: bool,
     ahead: &[u8],
     count: usize,
     is_piece: bool,
 ) -> Found<M::Parts>
     requires live { M.live machine.old ≡ true }
     requires ahead { count + AHEAD ≤ length ahead.now }
-    ensures own { (parts : M.Parts) → result ≡ Ends parts → V.takes out.now source M.kind }
+    ensures own { (parts : M.Parts) → result ≡ Ends parts → takes_told ≡ true }
     ensures same { M.reads machine.new ≡ M.reads machine.old }
     ensures live { M.live machine.new ≡ true }
     ensures ends { (parts : M.Parts) → result ≡ Ends parts →
@@ -177,7 +176,7 @@ fn look<M: Finds, V: Receiver>(
     ensures idles { (result ≡ Waits → ⊥) →
         TakesNone M.stands M.held_units M.skipped_units machine.old machine.new }
 {
-    if out.takes_told(source, machine.kind()) {
+    if takes_told {
         machine.find(ahead, count, is_piece)
     } else {
         Found::Unknown
@@ -262,13 +261,13 @@ pub fn feed_run<M: Finds, R: Run, V: Receiver>(
         }) machine.old machine.new
         (record { run = R.cells run.now; source = source; events = given; fault = result })) }
 {
+    let takes_told = out.takes_told(source, machine.kind());
     let ahead = run.ahead();
     let mut done = 0;
     while done < run.len() {
         match look(
             machine,
-            out,
-            source,
+            takes_told,
             &ahead[done..],
             run.len() - done,
             run.is_piece(),

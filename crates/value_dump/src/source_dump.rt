@@ -67,6 +67,8 @@ impl Receiver for SourceDump {
 
     ghost adds_up = { adds_up };
 
+    ghost takes_on = { λ a b es source kind g t. t };
+
     fn give(&mut self, outlet: &mut Outlet, event: Event<Packet>) {
         if let What::Packet(Packet::Itm(packet)) = &event.what {
             self.put_packet(outlet, event.source, packet);
