@@ -1,9 +1,9 @@
 -- Bytes of a hunt that are skipped at once.
-use Rattle.std.proofs.Common.{◌≡◌, ℕ, ◌+◌, List, [], ◌∷◌, ◌++◌, length, take, refl, sym, ◌∙◌, ap, subst, arith, append_assoc}
-use Rattle.std.proofs.Common.{append-nil, Bool, false, true, None, Option}
+use Rattle.std.proofs.Common.{◌≡◌, ℕ, ◌+◌, List, [], ◌∷◌, ◌++◌, length, refl, sym, ◌∙◌, ap, subst, arith, append_assoc}
+use Rattle.std.proofs.Common.{append-nil, false, true, None, Option}
 use Rattle.std.specs.Prelude.{◌==◌, ◌&&◌}
-use Rattle.itm_codec.specs.Names.{Placed, units_of, by_unit, Pattern, StandsIn, Mode, Hunting, Sync, ItmPacket, Partial, Header, rule}
-use Rattle.itm_codec.specs.Names.{Seeks, Passes}
+use Rattle.itm_codec.specs.Names.{Placed, units_of, by_unit, Pattern, Hunting, Sync, ItmPacket, Partial, Header, rule}
+use Rattle.itm_codec.specs.Names.{Seeks}
 use Rattle.trace_values.specs.Hunted.{Found, hunt, hunted_by, run_after}
 use Rattle.trace_values.proofs.Modes as laws
 use Rattle.itm_codec.specs.Hunting.{Skips}

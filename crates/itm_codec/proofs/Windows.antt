@@ -1,5 +1,5 @@
 -- Packets that eight bytes begin with, and their payloads as words.
-use Rattle.std.proofs.Common.{◌≡◌, ℕ, zero, suc, ◌+◌, ◌-◌, ◌*◌, ◌/◌, ◌%◌, ◌^◌, ◌<◌, ◌≤◌, ◌⊎◌, inl, inr, List, [], ◌∷◌, All, length, take, drop, slice_index, bit_and, true, refl, sym, ◌∙◌, ap, subst, arith}
+use Rattle.std.proofs.Common.{◌≡◌, ℕ, zero, suc, ◌+◌, ◌-◌, ◌*◌, ◌/◌, ◌%◌, ◌^◌, ◌<◌, ◌≤◌, ◌⊎◌, inl, inr, List, [], ◌∷◌, All, length, take, drop, get_or, slice_index, bit_and, true, refl, sym, ◌∙◌, ap, subst, arith}
 use Rattle.std.specs.Prelude.{◌==◌}
 use Rattle.std.specs.Int.Count.{count_trailing_zeros}
 use Rattle.std.specs.Int.Bits.{and_zero_r}
@@ -7,6 +7,7 @@ use Rattle.std.proofs.lemmas.Bool.{agree_below_at, eqb-true}
 use Rattle.std.proofs.lemmas.List.{length-take-le}
 use Rattle.std.proofs.lemmas.Nat.{and_block, and_mask}
 use Rattle.itm_codec.specs.Names.{Spells, IsContinued, IsExtended, groups, extended}
+use Rattle.itm_codec.specs.declared.whole.TheConstants.{VALUES}
 use Rattle.itm_codec.specs.declared.whole.InWindow.{InWindow}
 use Rattle.itm_codec.specs.declared.whole.InWindow.TheVariants.{Packet, Other}
 use Rattle.itm_codec.specs.Windows.{IsFound, four_bytes}
@@ -31,14 +32,13 @@ found_front window header payload found l h e f = found_in 5 window (header ∷ 
 pub one_more : (n header : ℕ) (l : List ℕ) → take (1 + n) (header ∷ l) ≡ header ∷ take n l
 one_more n header l = ap (λ (k : ℕ). take k (header ∷ l)) (let e : 1 + n ≡ suc n = omega arith in e)
 
--- the first bytes of a word
-pub front : (word n : ℕ) → 0 < n → n ≤ 4 → bit_and word (4294967295 / 2 ^ (32 - 8 * n)) ≡ word % 256 ^ n
-front word zero h l = absurd (omega arith)
-front word (suc zero) h l = and_mask word 8
-front word (suc (suc zero)) h l = and_mask word 16
-front word (suc (suc (suc zero))) h l = and_mask word 24
-front word (suc (suc (suc (suc zero)))) h l = and_mask word 32
-front word (suc (suc (suc (suc (suc n))))) h l = absurd (omega arith)
+-- the tables by the code of a size
+pub value_is : (payload code : ℕ) → 0 < code → code < 4 → bit_and payload (get_or VALUES.now code 0) ≡ payload % 256 ^ (code + code / 3)
+value_is payload zero h l = absurd (omega arith)
+value_is payload (suc zero) h l = and_mask payload 8
+value_is payload (suc (suc zero)) h l = and_mask payload 16
+value_is payload (suc (suc (suc zero))) h l = and_mask payload 32
+value_is payload (suc (suc (suc (suc code)))) h l = absurd (omega arith)
 
 -- seven bits of a word, where they are
 block : (word high low k : ℕ) → word ≡ high * 2 ^ k + low → low < 2 ^ k → bit_and word (127 * 2 ^ k + 0) ≡ high % 128 * 2 ^ k

@@ -167,9 +167,7 @@ impl ItmDecoder {
         requires locked { has_locked self.old ≡ true }
         ensures { Looked self.old self.new ahead.now count result }
     {
-        let Some(next) = ahead.first_chunk::<AHEAD>() else {
-            return Found::Unknown;
-        };
+        let next = next_in(ahead);
         if is_piece && self.waiting == 0 {
             return self.find_fresh(ahead, next, count);
         }
@@ -380,6 +378,16 @@ impl ItmDecoder {
         self.waiting = 0;
         self.held = 0;
     }
+}
+
+/// The first of these bytes, as many as are read at once. Their number is known where the code is built, so that nothing
+/// is tested.
+#[inline(always)]
+fn next_in(ahead: &[u8]) -> &[u8; AHEAD]
+    requires { AHEAD ≤ length ahead.now }
+    ensures { result.now ≡ take AHEAD ahead.now }
+{
+    ahead[..AHEAD].first_chunk::<AHEAD>().unwrap()
 }
 
 /// What the first `count` of these bytes are to a packet whose first byte is the first of them. What the bytes after

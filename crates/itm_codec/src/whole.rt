@@ -53,34 +53,48 @@ fn source_in(header: u8, payload: u32) -> InWindow
     ensures { IsFound (header ∷ four_bytes payload) result }
 {
     let code = header % 4;
-    let count = code + code / 3;
-    let value = front_of(payload, count);
     InWindow::Packet {
-        bytes: 1 + usize::from(count),
-        packet: source_of(header, size_of(code), value),
+        bytes: 1 + count_of(code),
+        packet: source_of(header, size_of(code), value_in(code, payload)),
     }
 }
 
-/// The size with this code.
+/// The sizes by their codes. What these tables have for 0 is of no account: no size has it.
+const SIZES: &[Size] = &[Size::One, Size::One, Size::Two, Size::Four];
+
+/// How many bytes a value of the size with each code has, and the bits of all of them.
+const COUNTS: &[u8] = &[0, 1, 2, 4];
+
+const VALUES: &[u32] = &[0, 0xFF, 0xFFFF, 0xFFFF_FFFF];
+
+/// The size with this code. It is read from a table, as what follows: a choice of the size would be more instructions.
 #[inline(always)]
 fn size_of(code: u8) -> Size
     requires { (0 < code) × (code < 4) }
     ensures { size_bits result ≡ code }
 {
-    match code {
-        1 => Size::One,
-        2 => Size::Two,
-        _ => Size::Four,
-    }
+    let sizes = SIZES;
+    sizes[code as usize]
 }
 
-/// The number that the first so many of these four bytes are.
+/// How many bytes a value of the size with this code has.
 #[inline(always)]
-fn front_of(payload: u32, count: u8) -> u32
-    requires { (0 < count) × (count ≤ 4) }
-    ensures { result ≡ payload % 256 ^ count }
+fn count_of(code: u8) -> usize
+    requires { (0 < code) × (code < 4) }
+    ensures { result ≡ code + code / 3 }
 {
-    payload & (0xFFFF_FFFF >> (32 - 8 * u32::from(count)))
+    let counts = COUNTS;
+    counts[code as usize] as usize
+}
+
+/// The value of the size with this code, where the payload begins with these four bytes.
+#[inline(always)]
+fn value_in(code: u8, payload: u32) -> u32
+    requires { (0 < code) × (code < 4) }
+    ensures { result ≡ payload % 256 ^ (code + code / 3) }
+{
+    let values = VALUES;
+    payload & values[code as usize]
 }
 
 /// The software or hardware packet with this header and this value, which fits its size.

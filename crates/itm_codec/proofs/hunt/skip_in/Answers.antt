@@ -1,4 +1,4 @@
-use Rattle.std.proofs.Common.{◌+◌, ℕ, List, arith, slice_index_or, subst, sym, take, ◌∙◌}
+use Rattle.std.proofs.Common.{ℕ, List, arith, slice_index_or, subst, sym, take, ◌∙◌}
 use Rattle.std.proofs.lemmas.List.{take_more}
 use Rattle.itm_codec.specs.Hunting.{Skips}
 use Rattle.itm_codec.proofs.Skipping.{skips_more}

@@ -1,6 +1,6 @@
 use Rattle.std.proofs.Common.{◌≡◌, ℕ, ◌+◌, List, [], ◌∷◌, ◌++◌, length, sym, ◌∙◌, ap, subst, true}
 use Rattle.std.proofs.lemmas.List.{length-map, length-take-le}
-use Rattle.itm_codec.specs.Names.{Placed, units_of, by_unit, Mode, Hunting, StandsIn, Sync, Header, rule, hunts}
+use Rattle.itm_codec.specs.Names.{Placed, by_unit, Mode, StandsIn, Sync, Header, rule, hunts}
 use Rattle.itm_codec.specs.Hunting.{Skips}
 use Rattle.itm_codec.specs.Reading.{pattern, packets_in}
 use Rattle.itm_codec.specs.Decoder.{partial_of}
