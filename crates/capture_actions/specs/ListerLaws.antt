@@ -1,5 +1,6 @@
 -- What the receiver of `show` is given adds up: proofs that its `impl` cites.
-use Rattle.std.proofs.Common.{◌≡◌, ◌∙◌, ℕ, ◌++◌, [], List, Bool, true, false, Option, None, Some, sym, ap, subst, append_assoc, append-nil, refl}
+use Rattle.std.proofs.Common.{◌≡◌, ◌∙◌, ℕ, ◌++◌, [], List, Bool, true, false, Option, None, Some, sym, ap, subst, refl}
+use Rattle.std.proofs.Common.{append_assoc, append-nil}
 use Rattle.capture_actions.specs.Names.{Event, Packet, Plan, SourceKind, Stp}
 use Rattle.source_events.specs.declared.plan.SourceKind.TheVariants.{Itm}
 use Rattle.capture_actions.specs.Faulty.{is_stp}

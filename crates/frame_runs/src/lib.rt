@@ -10,4 +10,4 @@ mod placed;
 pub use data::data_in_place;
 pub use named::{after_frame, late_ends};
 pub use pairs::RunEnds;
-pub use placed::place_frame;
+pub use placed::{place_frame, place_plain};

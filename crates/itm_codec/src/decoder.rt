@@ -380,8 +380,8 @@ impl ItmDecoder {
     }
 }
 
-/// The first of these bytes, as many as are read at once. Their number is known where the code is built, so that nothing
-/// is tested.
+/// The first of these bytes, as many as are read at once. How many they are is known where the code is built, so that
+/// nothing is tested.
 #[inline(always)]
 fn next_in(ahead: &[u8]) -> &[u8; AHEAD]
     requires { AHEAD ≤ length ahead.now }

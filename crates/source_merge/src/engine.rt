@@ -25,7 +25,7 @@ use deformatter::{PortReader, PortStep};
 use frame_grammar::frame::FRAME_BYTES;
 use frame_grammar::gather::{PlacedFrame, gather_frame_at};
 use frame_grammar::plain::plain_frame;
-use frame_runs::place_frame;
+use frame_runs::place_plain;
 use source_counts::Counts;
 use source_events::{Plan, PortCounts, PortMode, Tails};
 use source_machine::AHEAD;
@@ -309,12 +309,11 @@ impl Engine {
             (self.new, (out.new, to.new)) result }
     {
         if self.port.is_between() {
-            if let Some(frame) = &place_frame(at, piece) {
-                let flow = self.take_gathered(frame, out, to);
-                return Fed {
-                    bytes: frame.size(),
-                    flow,
-                };
+            if let Some(frame) = plain_frame(piece) {
+                return self.take_placed(at, piece, &place_plain(at, piece, frame), out, to);
+            }
+            if let Some(frame) = &gather_frame_at(at, piece) {
+                return self.take_placed(at, piece, frame, out, to);
             }
         }
         self.take_step(at, piece, out, to)
@@ -348,6 +347,32 @@ impl Engine {
         Fed {
             bytes: taken.bytes,
             flow: flow_of(stop),
+        }
+    }
+
+    /// Takes the whole frame that a piece begins with, whose first byte is at this offset.
+    #[inline(always)]
+    fn take_placed<V: Receiver>(
+        &mut self,
+        at: u64,
+        _piece: &[u8],
+        frame: &PlacedFrame,
+        out: &mut V,
+        to: &mut V::To,
+    ) -> Fed
+        requires next { IsNext self.old at (length _piece.now) }
+        requires space { 30 ≤ V.room (out.old, to.old) }
+        requires between { IsBetween self.old.port }
+        requires room { FRAME_BYTES + 2 * frame.now.halves ≤ length _piece.now }
+        requires at { frame.now.at ≡ at }
+        requires gathered { IsGathered at (take (FRAME_BYTES + 2 * frame.now.halves) _piece.now) frame.now }
+        ensures { TakesLast V.gets V.room at _piece.now (self.old, (out.old, to.old))
+            (self.new, (out.new, to.new)) result }
+    {
+        let flow = self.take_gathered(frame, out, to);
+        Fed {
+            bytes: frame.size(),
+            flow,
         }
     }
 
