@@ -1,10 +1,11 @@
 //! A whole frame at the front of a piece, and where its bytes are.
 
-ghost use Rattle.std.specs.Prelude.{◌≡◌, ◌≤◌, ◌+◌, ◌*◌, ◌^◌, ℕ, List, length, take, IfSome};
+ghost use Rattle.std.specs.Prelude.{◌≡◌, ◌≤◌, ◌+◌, ◌*◌, ◌^◌, ℕ, List, length, take, IfSome, IsNone};
 ghost use Rattle.trace_values.specs.Placed.{placed_from};
 ghost use Rattle.frame_grammar.specs.Reading.{offsets_of};
 ghost use Rattle.frame_grammar.specs.Whole.{IsWhole, without_halves};
 ghost use Rattle.frame_grammar.specs.declared.frame.TheConstants.{FRAME_BYTES};
+ghost use Rattle.frame_grammar.specs.declared.gather.TheConstants.{MOST_BYTES};
 ghost use Rattle.frame_grammar.specs.Frame.{IsProperFrame};
 ghost use Rattle.frame_runs.specs.Gathered.{IsGathered, frame_places};
 
@@ -45,6 +46,8 @@ pub fn place_frame(at: u64, piece: &[u8]) -> Option<PlacedFrame>
     ensures at { IfSome result (λ g. g.at ≡ at) }
     ensures offsets { IfSome result (λ g. let w = placed_from at (take (FRAME_BYTES + 2 * g.halves) piece.now) in
         frame_places g ≡ offsets_of (without_halves w)) }
+    ensures only { IsNone result → (n halves : ℕ) (frame : List ℕ) → n ≤ MOST_BYTES → n ≤ length piece.now →
+        IsWhole (take n piece.now) frame halves → ⊥ }
 {
     let Some(frame) = plain_frame(piece) else {
         return gather_frame_at(at, piece);
