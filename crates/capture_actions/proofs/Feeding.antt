@@ -2,12 +2,13 @@
 use Rattle.std.proofs.Common.{◌≡◌, ℕ, suc, ◌+◌, List, [], ◌∷◌, ◌++◌, length, refl, sym, ◌∙◌, ap, subst, append_assoc}
 use Rattle.std.proofs.Common.{arith, Option, None, Some, true, false}
 use Rattle.std.specs.Prelude.{is_none, option_map}
+use Rattle.std.specs.Option.{is_some}
 use Rattle.capture_actions.proofs.Ports.{next_bytes}
 use Rattle.capture_actions.specs.Names.{Reason, Place, Placed, placed_from, placed, FaultAfter}
 use Rattle.capture_actions.specs.Names.{offsets_of, Event, Stop, Packet, Plan, stop_of, report_of, fault_of, Going}
 use Rattle.capture_actions.specs.Names.{Engine, Stands, is_live, plan_of}
 use Rattle.deformatter.specs.Rising.{end_at}
-use Rattle.source_merge.specs.Answering.{fault_by, goes_on as is_on}
+use Rattle.source_merge.specs.Answering.{fault_by, flow_to, goes_on as is_on}
 use Rattle.source_merge.specs.declared.flow.Flow.{Flow}
 use Rattle.source_merge.specs.declared.flow.Flow.TheVariants.{Stopped}
 use Rattle.source_merge.specs.Engine.{next_of}
@@ -16,7 +17,6 @@ use Rattle.capture_actions.specs.CaptureReading.{IsLive}
 use Rattle.capture_actions.specs.CaptureReading.{Stands as HasRead}
 use Rattle.capture_actions.specs.declared.reading.CaptureReading.{CaptureReading}
 use Rattle.capture_actions.specs.Faulty.{IsFaulty}
-use Rattle.capture_actions.specs.Stopping.{is_stopped, stop_by}
 
 abbrev pub Fault : Type 0
 Fault = Option (Place × (Reason × Option ℕ))
@@ -53,25 +53,24 @@ module _ (plan : Plan) (seen bytes : List ℕ) (at : ℕ) (given : List (Event P
     broken = ap (λ (o : Fault). is_none o) (fault_after ∙ ap fault_by g);
   }
 
-flows : (plan : Plan) (seen bytes : List ℕ) (at : ℕ) (given : List (Event Packet)) (flow : Flow) (e : at ≡ length seen) →
-    Reads plan (placed seen) at bytes given flow → FaultAfter (IsFaulty plan) (seen ++ bytes) (is_stopped flow)
-flows plan seen bytes at given Going e reads = goes_on plan seen bytes at given Going e reads refl
-flows plan seen bytes at given (Stopped stop) e reads = ends plan seen bytes at given (Stopped stop) e reads stop refl
+flows : (plan : Plan) (seen bytes : List ℕ) (at : ℕ) (given : List (Event Packet)) (stop : Option Stop) (e : at ≡ length seen) →
+    Reads plan (placed seen) at bytes given (flow_to stop) → FaultAfter (IsFaulty plan) (seen ++ bytes) (is_some stop)
+flows plan seen bytes at given None e reads = goes_on plan seen bytes at given Going e reads refl
+flows plan seen bytes at given (Some stop) e reads = ends plan seen bytes at given (Stopped stop) e reads stop refl
 
-kept : (flow : Flow) (stop : Option Stop) → is_none stop ≡ true → option_map stop_of (stop_by flow stop) ≡ fault_by flow
-kept Going None h = refl
-kept Going (Some stop) h = cc
-kept (Stopped fault) stop h = refl
+kept : (stop : Option Stop) → option_map stop_of stop ≡ fault_by (flow_to stop)
+kept None = refl
+kept (Some stop) = refl
 
 is_nothing : (fault : Fault) → true ≡ is_none fault → fault ≡ None
 is_nothing None h = refl
 is_nothing (Some fault) h = cc
 
 -- an engine after a block, and what an action keeps of it
-module _ (old new : Engine) (seen bytes : List ℕ) (at : ℕ) (given : List (Event Packet)) (flow : Flow)
+module _ (old new : Engine) (seen bytes : List ℕ) (at : ℕ) (given : List (Event Packet)) (stop : Option Stop)
     (stands : Stands old (placed seen)) (next : at ≡ next_of old)
     (same : plan_of new ≡ plan_of old) (list : Stands new (placed seen ++ placed_from at bytes))
-    (reads : Reads (plan_of old) (placed seen) at bytes given flow) where
+    (reads : Reads (plan_of old) (placed seen) at bytes given (flow_to stop)) where
   here : at ≡ length seen
   here = next ∙ stands.next ∙ capture_end seen
 
@@ -79,20 +78,19 @@ module _ (old new : Engine) (seen bytes : List ℕ) (at : ℕ) (given : List (Ev
   stands_after = subst (λ (u : List Placed). Stands new u) (next_bytes seen bytes at here) list
 
   pub report_here : report_of (plan_of old) (placed (seen ++ bytes)) ≡ report_of (plan_of old) (placed seen) ++ given
-  report_here = report_grew (plan_of old) seen bytes at given flow here reads
+  report_here = report_grew (plan_of old) seen bytes at given (flow_to stop) here reads
 
   pub report_after : report_of (plan_of new) (placed (seen ++ bytes)) ≡ report_of (plan_of old) (placed seen) ++ given
   report_after =
       ap (λ (plan : Plan). report_of plan (placed (seen ++ bytes))) same ∙ report_here
 
-  pub stop_after : (stop : Option Stop) → is_none stop ≡ true →
-      option_map stop_of (stop_by flow stop) ≡ fault_of (plan_of new) (placed (seen ++ bytes))
-  stop_after stop h =
-      kept flow stop h ∙ sym (fault_after (plan_of old) seen bytes at given flow here reads)
+  pub stop_after : option_map stop_of stop ≡ fault_of (plan_of new) (placed (seen ++ bytes))
+  stop_after =
+      kept stop ∙ sym (fault_after (plan_of old) seen bytes at given (flow_to stop) here reads)
       ∙ sym (ap (λ (plan : Plan). fault_of plan (placed (seen ++ bytes))) same)
 
-  pub flow_after : FaultAfter (IsFaulty (plan_of old)) (seen ++ bytes) (is_stopped flow)
-  flow_after = flows (plan_of old) seen bytes at given flow here reads
+  pub fault_here : FaultAfter (IsFaulty (plan_of old)) (seen ++ bytes) (is_some stop)
+  fault_here = flows (plan_of old) seen bytes at given stop here reads
 
 -- an engine after whole frames that it counted, and what is kept of it
 module _ (old new : Engine) (seen bytes : List ℕ) (stands : Stands old (placed seen))

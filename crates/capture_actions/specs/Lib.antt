@@ -43,4 +43,3 @@ pub mod PortTextLaws
 pub mod PortValues
 pub mod PortValuesLaws
 pub mod PortTexter
-pub mod Stopping

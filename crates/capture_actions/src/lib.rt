@@ -26,7 +26,6 @@ mod show;
 mod source_clocks;
 mod split;
 mod split_plan;
-mod stopping;
 mod unring;
 mod unring_plan;
 
@@ -48,6 +47,5 @@ pub use show::Show;
 pub use source_clocks::SourceClocks;
 pub use split::Split;
 pub use split_plan::SplitPlan;
-pub use stopping::keep_stop;
 pub use unring::Unring;
 pub use unring_plan::UnringPlan;

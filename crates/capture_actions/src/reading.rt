@@ -5,7 +5,6 @@ ghost use Rattle.capture_actions.specs.Names.{Placed, placed_from, is_sound, is_
 ghost use Rattle.source_merge.specs.Engine as engine;
 ghost use Rattle.source_merge.specs.declared.engine.TheConstants.{GREATEST_OFFSET};
 
-use crate::stopping::keep_stop;
 use source_events::{Plan, Stop};
 use source_merge::{Engine, Receiver};
 use trace_stream::Progress;
@@ -84,11 +83,10 @@ impl CaptureReading {
             (take result.bytes piece.now) result.is_faulty }
     {
         let at = self.engine.next();
-        let fed = self.engine.take(at, piece, out, to);
-        let is_faulty = keep_stop(&mut self.stop, fed.flow);
+        let bytes = self.engine.take(at, piece, &mut self.stop, out, to);
         Progress {
-            bytes: fed.bytes,
-            is_faulty,
+            bytes,
+            is_faulty: self.stop.is_some(),
         }
     }
 

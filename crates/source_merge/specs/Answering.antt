@@ -1,7 +1,7 @@
 -- What an engine answers to a byte, by the report.
 use Rattle.std.specs.Prelude.{◌≡◌, ℕ, List, [], ◌∷◌, ◌++◌, Bool, true, false, Option, None, Some}
 use Rattle.source_merge.specs.Names.{Reason, Place, Placed, byte_at, PortReading, port_reading, Event, Packet, Plan}
-use Rattle.source_merge.specs.Names.{sources_by, report, stop_in, stop_of}
+use Rattle.source_merge.specs.Names.{Stop, sources_by, report, stop_in, stop_of}
 use Rattle.source_merge.specs.declared.flow.Flow.{Flow}
 use Rattle.source_merge.specs.declared.flow.Flow.TheVariants.{Going, Stopped}
 
@@ -21,6 +21,11 @@ fault_of plan u = stop_in (sources_by plan) (port_of plan u)
 abbrev pub fault_by : Flow → Option (Place × (Reason × Option ℕ))
 fault_by Going = None
 fault_by (Stopped stop) = Some (stop_of stop)
+
+-- the flow of a report that has this fault by now, or none
+abbrev pub flow_to : Option Stop → Flow
+flow_to None = Going
+flow_to (Some stop) = Stopped stop
 
 abbrev pub goes_on : Flow → Bool
 goes_on Going = true

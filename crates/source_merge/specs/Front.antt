@@ -1,14 +1,15 @@
 -- What an engine takes of the front of a piece.
-use Rattle.std.specs.Prelude.{◌≡◌, ◌<◌, ◌≤◌, ℕ, ◌+◌, ◌*◌, List, [], ◌∷◌, ◌++◌, length, take, None, Some, false}
+use Rattle.std.specs.Prelude.{◌≡◌, ◌<◌, ◌≤◌, ℕ, ◌+◌, ◌*◌, List, [], ◌∷◌, ◌++◌, length, take, Option, None, Some, false}
 use Rattle.std.specs.Prelude.{position, true, ◌==◌}
 use Rattle.source_merge.specs.Names.{Placed, placed_from, Bare, FedAs, PlacedFrame, Event, Packet, Plan, IsGathered}
+use Rattle.source_merge.specs.Names.{Stop}
 use Rattle.frame_grammar.specs.declared.frame.TheConstants.{FRAME_BYTES}
 use Rattle.source_merge.specs.declared.flow.Fed.{Fed}
 use Rattle.source_merge.specs.declared.flow.Flow.{Flow}
 use Rattle.source_merge.specs.declared.flow.Flow.TheVariants.{Going}
 use Rattle.source_merge.specs.declared.engine.Engine.{Engine}
 use Rattle.source_merge.specs.declared.engine.TheConstants.{GREATEST_OFFSET}
-use Rattle.source_merge.specs.Answering.{Answers, fault_by, fault_of, goes_on, report_of}
+use Rattle.source_merge.specs.Answering.{Answers, fault_by, fault_of, flow_to, goes_on, report_of}
 use Rattle.source_merge.specs.Engine.{Stands, is_live, next_of, plan_of}
 use Rattle.source_merge.specs.Giving.{GivesTo}
 
@@ -22,6 +23,10 @@ pub record IsNext (engine : Engine) (at count : ℕ) : Type 0 where
   pub some : 0 < count
   pub after : next_of engine ≤ at
   pub within : at + count ≤ GREATEST_OFFSET + 1
+
+-- so many bytes were fed, and the report has this fault by now, or none
+abbrev pub fed : ℕ → Option Stop → Fed
+fed bytes stop = record { bytes = bytes; flow = flow_to stop }
 
 -- It took these bytes of the piece, whose first is at this offset, and stands for them after what it stood for.
 pub record TakesFront (old new : Engine) (at : ℕ) (piece : List ℕ) (taken : Fed) : Type 0 where

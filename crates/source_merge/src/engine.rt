@@ -11,7 +11,7 @@ ghost use Rattle.source_merge.specs.RoutingLaws.{ready-prop};
 
 use crate::bare::{bare_source, taken_of};
 use crate::counts::Counters;
-use crate::flow::{Fed, Flow, flow_of};
+use crate::flow::{Fed, Flow, flow_of, keep};
 use crate::frame::AnyFrame;
 use crate::mapped::{Slots, slots_of};
 use crate::piece::PieceRun;
@@ -27,7 +27,7 @@ use frame_grammar::gather::{PlacedFrame, gather_frame_at};
 use frame_grammar::plain::plain_frame;
 use frame_runs::place_plain;
 use source_counts::Counts;
-use source_events::{Plan, PortCounts, PortMode, Tails};
+use source_events::{Plan, PortCounts, PortMode, Stop, Tails};
 use source_machine::AHEAD;
 use trace_values::{Cell, FramesMode, SourceId};
 
@@ -67,7 +67,7 @@ pub struct Engine {
 
 impl Engine {
     ghost use Rattle.std.specs.Prelude.{ℕ, ◌<◌, ◌-◌, ◌++◌, ◌∷◌, [], List, length, take, is_none};
-    ghost use Rattle.std.specs.Prelude.{Some, IfSome};
+    ghost use Rattle.std.specs.Prelude.{Some, None, IfSome};
     ghost use Rattle.arrayvec.specs.ArrayVec.{array_vec_len};
     ghost use Rattle.trace_values.specs.Placed.{Placed, byte_at, placed_from};
     ghost use Rattle.deformatter.specs.Block.{FedAs};
@@ -77,13 +77,13 @@ impl Engine {
     ghost use Rattle.deformatter.specs.Reader.{IsBetween};
     ghost use Rattle.source_events.specs.Fitting.{AllFit, PacketFits};
     ghost use Rattle.source_events.specs.Tails.{port_counts_of, source_counts_of, tails_of};
-    ghost use Rattle.source_merge.specs.Answering.{Answers, fault_of, goes_on};
+    ghost use Rattle.source_merge.specs.Answering.{Answers, fault_of, flow_to, goes_on};
     ghost use Rattle.frame_runs.specs.Gathered.{IsGathered};
     ghost use Rattle.source_merge.specs.Giving.{GivesTo};
     ghost use Rattle.source_merge.specs.declared.flow.Flow.TheVariants.{Going};
     ghost use Rattle.source_merge.specs.Engine.{Stands, is_live, next_of, plan_of};
     ghost use Rattle.source_merge.specs.Front.{GivesLast, IsBare, IsNext, ReadsTo, TakesFront, TakesGathered};
-    ghost use Rattle.source_merge.specs.Front.{TakesLast};
+    ghost use Rattle.source_merge.specs.Front.{TakesLast, fed};
     ghost use Rattle.source_merge.specs.Piece.{bytes_in};
 
     /// An engine before the first byte. Its plan is sound.
@@ -146,7 +146,9 @@ impl Engine {
         ensures fed { (u : List Placed) → Stands self.old u →
             Answers (plan_of self.old) out.new.items result u at byte }
     {
-        self.take_step(at, &[byte], out, &mut ()).flow
+        let mut stop = None;
+        self.take_step(at, &[byte], &mut stop, out, &mut ());
+        flow_of(stop)
     }
 
     /// Takes bytes from the front of a piece, the first of which is at this offset, up to the first byte at which
@@ -167,13 +169,14 @@ impl Engine {
         ensures fed { GivesLast self.old at (take result.bytes piece.now) result.flow out.new.items }
     {
         let mut bytes = 0;
+        let mut stop = None;
         while bytes < piece.len() {
-            let fed = self.take_framed(at + bytes as u64, &piece[bytes..], out, &mut ());
-            bytes += fed.bytes;
+            let here = at + bytes as u64;
+            bytes += self.take_framed(here, &piece[bytes..], &mut stop, out, &mut ());
             if !out.is_empty() || !self.live {
                 return Fed {
                     bytes,
-                    flow: fed.flow,
+                    flow: flow_of(stop),
                 };
             }
         }
@@ -186,26 +189,34 @@ impl Engine {
     /// Takes bytes from the front of a piece, the first of which is at this offset, and gives their events to what
     /// takes them: a whole frame, or else bytes up to the first one that ends a frame or a synchronisation, or is a
     /// fault, or to the piece's end. With no formatter it takes bytes for whose events there is room. It leaves what
-    /// `feed` does.
+    /// `feed` does. Answers how many bytes it took, and keeps the fault that has become certain with the last of them.
     ///
-    /// The engine is live, there is room for 30 events, and the piece has a byte. Its first offset is at least
-    /// `next()`, and its last one at most `GREATEST_OFFSET`.
+    /// The engine is live, no fault is kept, there is room for 30 events, and the piece has a byte. Its first offset is
+    /// at least `next()`, and its last one at most `GREATEST_OFFSET`.
     #[inline(always)]
-    pub fn take<V: Receiver>(&mut self, at: u64, piece: &[u8], out: &mut V, to: &mut V::To) -> Fed
+    pub fn take<V: Receiver>(
+        &mut self,
+        at: u64,
+        piece: &[u8],
+        stop: &mut Option<Stop>,
+        out: &mut V,
+        to: &mut V::To,
+    ) -> usize
         requires live { is_live self.old ≡ true }
+        requires going { stop.old ≡ None }
         requires space { 30 ≤ V.room (out.old, to.old) }
         requires some { 0 < length piece.now }
         requires offsets { (next_of self.old ≤ at) × (at + length piece.now ≤ GREATEST_OFFSET + 1) }
-        ensures takes { TakesFront self.old self.new at piece.now result }
+        ensures takes { TakesFront self.old self.new at piece.now (fed result stop.new) }
         ensures reads { GivesTo V.gets (out.old, to.old) (out.new, to.new)
-            (ReadsTo self.old at (take result.bytes piece.now) result.flow) }
+            (ReadsTo self.old at (take result piece.now) (flow_to stop.new)) }
     {
         match self.plan.frames {
             FramesMode::Bare => match find(self.slots.as_slice(), bare_source()) {
-                Some(index) => self.take_bare(index, at, piece, out, to),
-                None => self.take_step(at, piece, out, to),
+                Some(index) => self.take_bare(index, at, piece, stop, out, to),
+                None => self.take_step(at, piece, stop, out, to),
             },
-            FramesMode::Hunt | FramesMode::Aligned => self.take_framed(at, piece, out, to),
+            FramesMode::Hunt | FramesMode::Aligned => self.take_framed(at, piece, stop, out, to),
         }
     }
 
@@ -217,15 +228,17 @@ impl Engine {
         index: usize,
         at: u64,
         piece: &[u8],
+        stop: &mut Option<Stop>,
         out: &mut V,
         to: &mut V::To,
-    ) -> Fed
+    ) -> usize
         requires own { IsBare self.old index }
         requires next { IsNext self.old at (length piece.now) }
+        requires going { stop.old ≡ None }
         requires space { 30 ≤ V.room (out.old, to.old) }
-        ensures takes { TakesFront self.old self.new at piece.now result }
+        ensures takes { TakesFront self.old self.new at piece.now (fed result stop.new) }
         ensures reads { GivesTo V.gets (out.old, to.old) (out.new, to.new)
-            (ReadsTo self.old at (take result.bytes piece.now) result.flow) }
+            (ReadsTo self.old at (take result piece.now) (flow_to stop.new)) }
     {
         let most = out.events_left(to) / 2;
         if piece.len() > END_ROOM {
@@ -237,6 +250,7 @@ impl Engine {
                     count,
                     ahead: piece,
                 },
+                stop,
                 out,
                 to,
             );
@@ -251,6 +265,7 @@ impl Engine {
                 count,
                 ahead: &ahead,
             },
+            stop,
             out,
             to,
         )
@@ -262,15 +277,17 @@ impl Engine {
         &mut self,
         index: usize,
         run: &PieceRun,
+        stop: &mut Option<Stop>,
         out: &mut V,
         to: &mut V::To,
-    ) -> Fed
+    ) -> usize
         requires own { IsBare self.old index }
         requires next { IsNext self.old run.now.at run.now.count }
+        requires going { stop.old ≡ None }
         requires space { 2 * run.now.count ≤ V.room (out.old, to.old) }
-        ensures takes { TakesFront self.old self.new run.now.at (bytes_in run.now) result }
+        ensures takes { TakesFront self.old self.new run.now.at (bytes_in run.now) (fed result stop.new) }
         ensures reads { GivesTo V.gets (out.old, to.old) (out.new, to.new)
-            (ReadsTo self.old run.now.at (take result.bytes (bytes_in run.now)) result.flow) }
+            (ReadsTo self.old run.now.at (take result (bytes_in run.now)) (flow_to stop.new)) }
     {
         let source = bare_source();
         let fault = feed_slot(
@@ -287,10 +304,8 @@ impl Engine {
         self.count += bytes as u64;
         self.next = run.at + bytes as u64;
         self.live = fault.is_none();
-        Fed {
-            bytes,
-            flow: flow_of(stop_by(source, fault)),
-        }
+        keep(stop, stop_by(source, fault));
+        bytes
     }
 
     /// Takes the whole frame that a piece begins with, with half synchronisations between its halfwords or without, or
@@ -300,37 +315,70 @@ impl Engine {
         &mut self,
         at: u64,
         piece: &[u8],
+        stop: &mut Option<Stop>,
         out: &mut V,
         to: &mut V::To,
-    ) -> Fed
+    ) -> usize
         requires next { IsNext self.old at (length piece.now) }
+        requires going { stop.old ≡ None }
         requires space { 30 ≤ V.room (out.old, to.old) }
         ensures { TakesLast V.gets V.room at piece.now (self.old, (out.old, to.old))
-            (self.new, (out.new, to.new)) result }
+            (self.new, (out.new, to.new)) (fed result stop.new) }
     {
         if self.port.is_between() {
             if let Some(frame) = plain_frame(piece) {
-                return self.take_placed(at, piece, &place_plain(at, piece, frame), out, to);
-            }
-            if let Some(frame) = &gather_frame_at(at, piece) {
-                return self.take_placed(at, piece, frame, out, to);
+                let frame = &place_plain(at, piece, frame);
+                return self.take_placed(at, piece, frame, stop, out, to);
             }
         }
-        self.take_step(at, piece, out, to)
+        self.take_spaced(at, piece, stop, out, to)
+    }
+
+    /// Takes the whole frame that a piece begins with, with half synchronisations between its halfwords, or else bytes
+    /// as `take_step` does. Kept out of line: in line, its locals would be cleared before each plain frame.
+    #[inline(never)]
+    fn take_spaced<V: Receiver>(
+        &mut self,
+        at: u64,
+        piece: &[u8],
+        stop: &mut Option<Stop>,
+        out: &mut V,
+        to: &mut V::To,
+    ) -> usize
+        requires next { IsNext self.old at (length piece.now) }
+        requires going { stop.old ≡ None }
+        requires space { 30 ≤ V.room (out.old, to.old) }
+        ensures { TakesLast V.gets V.room at piece.now (self.old, (out.old, to.old))
+            (self.new, (out.new, to.new)) (fed result stop.new) }
+    {
+        if self.port.is_between() {
+            if let Some(frame) = &gather_frame_at(at, piece) {
+                return self.take_placed(at, piece, frame, stop, out, to);
+            }
+        }
+        self.take_step(at, piece, stop, out, to)
     }
 
     /// Takes bytes from the front of a piece up to the first one that ends a frame or a synchronisation, or is a fault,
     /// or to the piece's end. With no formatter it takes one byte.
     #[inline(never)]
-    fn take_step<V: Receiver>(&mut self, at: u64, piece: &[u8], out: &mut V, to: &mut V::To) -> Fed
+    fn take_step<V: Receiver>(
+        &mut self,
+        at: u64,
+        piece: &[u8],
+        stop: &mut Option<Stop>,
+        out: &mut V,
+        to: &mut V::To,
+    ) -> usize
         requires next { IsNext self.old at (length piece.now) }
+        requires going { stop.old ≡ None }
         requires space { 30 ≤ V.room (out.old, to.old) }
         ensures { TakesLast V.gets V.room at piece.now (self.old, (out.old, to.old))
-            (self.new, (out.new, to.new)) result }
+            (self.new, (out.new, to.new)) (fed result stop.new) }
     {
         self.cells.clear();
         let taken = self.port.feed_block(at, piece, &mut self.cells);
-        let stop = take_step(
+        let fault = take_step(
             self.slots.as_mut_slice(),
             &mut self.counters,
             at + (taken.bytes as u64 - 1),
@@ -343,11 +391,9 @@ impl Engine {
         );
         self.count += taken.bytes as u64;
         self.next = at + taken.bytes as u64;
-        self.live = stop.is_none();
-        Fed {
-            bytes: taken.bytes,
-            flow: flow_of(stop),
-        }
+        self.live = fault.is_none();
+        keep(stop, fault);
+        taken.bytes
     }
 
     /// Takes the whole frame that a piece begins with, whose first byte is at this offset.
@@ -357,44 +403,46 @@ impl Engine {
         at: u64,
         _piece: &[u8],
         frame: &PlacedFrame,
+        stop: &mut Option<Stop>,
         out: &mut V,
         to: &mut V::To,
-    ) -> Fed
+    ) -> usize
         requires next { IsNext self.old at (length _piece.now) }
+        requires going { stop.old ≡ None }
         requires space { 30 ≤ V.room (out.old, to.old) }
         requires between { IsBetween self.old.port }
         requires room { FRAME_BYTES + 2 * frame.now.halves ≤ length _piece.now }
         requires at { frame.now.at ≡ at }
         requires gathered { IsGathered at (take (FRAME_BYTES + 2 * frame.now.halves) _piece.now) frame.now }
         ensures { TakesLast V.gets V.room at _piece.now (self.old, (out.old, to.old))
-            (self.new, (out.new, to.new)) result }
+            (self.new, (out.new, to.new)) (fed result stop.new) }
     {
-        let flow = self.take_gathered(frame, out, to);
-        Fed {
-            bytes: frame.size(),
-            flow,
-        }
+        self.take_gathered(frame, stop, out, to);
+        frame.size()
     }
 
-    /// Takes a whole frame.
+    /// Takes a whole frame, and keeps the fault that has become certain with it.
     #[inline(never)]
     fn take_gathered<V: Receiver>(
         &mut self,
         frame: &PlacedFrame,
+        stop: &mut Option<Stop>,
         out: &mut V,
         to: &mut V::To,
-    ) -> Flow
+    )
         requires live { is_live self.old ≡ true }
+        requires going { stop.old ≡ None }
         requires space { 30 ≤ V.room (out.old, to.old) }
         requires between { IsBetween self.old.port }
         requires proper { IsProperFrame frame.now.bytes }
         requires offsets { (next_of self.old ≤ frame.now.at)
             × (frame.now.at + (FRAME_BYTES + 2 * frame.now.halves) ≤ GREATEST_OFFSET + 1) }
-        ensures takes { TakesGathered self.old self.new frame.now result }
+        ensures takes { TakesGathered self.old self.new frame.now (flow_to stop.new) }
         ensures space { V.room (out.old, to.old) ≤ V.room (out.new, to.new) + 30 }
         ensures fed { GivesTo V.gets (out.old, to.old) (out.new, to.new) (λ given.
             (u : List Placed) (w : List ℕ) → Stands self.old u → IsGathered frame.now.at w frame.now →
-            FedAs (Answers (plan_of self.old) [] Going) (Answers (plan_of self.old) given result) u frame.now.at w) }
+            FedAs (Answers (plan_of self.old) [] Going) (Answers (plan_of self.old) given (flow_to stop.new))
+            u frame.now.at w) }
     {
         self.counters.port.halves += frame.halves as u64;
         let bytes = frame.size() as u64;
@@ -411,7 +459,7 @@ impl Engine {
         self.count += bytes;
         self.next = frame.at + bytes;
         self.live = taken.stop.is_none();
-        flow_of(taken.stop)
+        keep(stop, taken.stop);
     }
 
     /// Where no source is mapped: takes the whole frame that a piece begins with, whose first byte is at this offset,

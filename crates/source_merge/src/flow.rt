@@ -1,9 +1,9 @@
 //! Whether a report goes on.
 
-ghost use Rattle.std.specs.Prelude.{◌≡◌, is_none};
+ghost use Rattle.std.specs.Prelude.{◌≡◌, None, is_none};
 ghost use Rattle.std.specs.Option.{option_map};
 ghost use Rattle.source_merge.specs.Names.{stop_of};
-ghost use Rattle.source_merge.specs.Answering.{fault_by, goes_on};
+ghost use Rattle.source_merge.specs.Answering.{fault_by, flow_to, goes_on};
 
 use source_events::Stop;
 
@@ -26,11 +26,23 @@ pub struct Fed {
 /// The answer of a report that has this fault by now, or none.
 #[inline]
 pub fn flow_of(stop: Option<Stop>) -> Flow
-    ensures fault { fault_by result ≡ option_map stop_of stop }
-    ensures going { goes_on result ≡ is_none stop }
+    ensures { result ≡ flow_to stop }
 {
     match stop {
         None => Flow::Going,
         Some(stop) => Flow::Stopped(stop),
+    }
+}
+
+/// Keeps the fault that a report has by now, if it has one, where none was kept.
+#[inline(always)]
+pub fn keep(kept: &mut Option<Stop>, stop: Option<Stop>)
+    requires none { kept.old ≡ None }
+    ensures kept { kept.new ≡ stop }
+    ensures fault { fault_by (flow_to kept.new) ≡ option_map stop_of stop }
+    ensures going { goes_on (flow_to kept.new) ≡ is_none stop }
+{
+    if let Some(stop) = stop {
+        *kept = Some(stop);
     }
 }

@@ -11,7 +11,6 @@ ghost use Rattle.value_dump.specs.declared.values.TheConstants.{ALL_ROOM};
 use crate::dump::ValueDump;
 use crate::source_dump::SourceDump;
 use crate::vcd_plan::VcdPlan;
-use capture_actions::keep_stop;
 use source_events::Stop;
 use source_merge::Engine;
 use trace_stream::{Action, Outlet, Progress};
@@ -98,11 +97,10 @@ impl Action for Vcd {
     fn feed(&mut self, piece: &[u8], outlet: &mut Outlet, _notes: &mut Outlet) -> Progress {
         let at = self.engine.next();
         self.begin(outlet);
-        let fed = self.engine.take(at, piece, &mut self.source, outlet);
-        let is_faulty = keep_stop(&mut self.stop, fed.flow);
+        let bytes = self.engine.take(at, piece, &mut self.stop, &mut self.source, outlet);
         Progress {
-            bytes: fed.bytes,
-            is_faulty,
+            bytes,
+            is_faulty: self.stop.is_some(),
         }
     }
 

@@ -1,4 +1,4 @@
-use Rattle.std.proofs.Common.{◌≡◌, ◌∙◌, ◌++◌, ℕ, [], List, sym, ap, subst, take}
+use Rattle.std.proofs.Common.{◌∙◌, ◌++◌, [], List, sym, ap, subst, take}
 use Rattle.capture_actions.specs.Names.{Event, Packet, Plan, placed, report_of}
 use Rattle.capture_actions.specs.CaptureReading as readings
 use Rattle.capture_actions.specs.Filter.{plan_by, HasSeen}

@@ -1,15 +1,16 @@
-use Rattle.std.proofs.Common.{◌≡◌, ℕ, ◌+◌, ◌-◌, ◌≤◌, List, [], ◌++◌, length, take, drop, refl, sym, ◌∙◌, ap, subst, arith}
+use Rattle.std.proofs.Common.{◌≡◌, ℕ, ◌+◌, ◌-◌, ◌≤◌, List, [], ◌++◌, length, take, drop, refl, sym, ◌∙◌, ap, subst, arith, true, Option, Some, None, rules}
 use Rattle.std.proofs.lemmas.List.{length-take-le, length-drop}
-use Rattle.source_merge.specs.Names.{Placed, placed_from, EachByte, FedAs, Event, Packet, Plan, AllFit, PacketFits}
+use Rattle.source_merge.specs.Names.{Placed, placed_from, EachByte, FedAs, Event, Packet, Plan, Stop, AllFit, PacketFits}
 use Rattle.deformatter.proofs.Blocks.{whole_fed}
 use Rattle.arrayvec.specs.ArrayVec.{array_vec_len}
-use Rattle.source_merge.specs.Answering.{Answers}
+use Rattle.source_merge.specs.Answering.{Answers, flow_to, goes_on}
 use Rattle.source_merge.specs.declared.engine.Engine.{Engine}
 use Rattle.source_merge.specs.declared.flow.Fed.{Fed}
 use Rattle.source_merge.specs.declared.flow.Flow.{Flow}
 use Rattle.source_merge.specs.declared.flow.Flow.TheVariants.{Going}
 use Rattle.source_merge.specs.Engine.{Stands, plan_of}
 use Rattle.source_merge.specs.Front.{GivesLast, TakesFront}
+use Rattle.source_merge.specs.Front.{fed as fed_by}
 use Rattle.source_merge.proofs.Feds.{fed_each, tail_of, going_on, none_in, more_list, more_fed}
 use Rattle.source_merge.proofs.engine.Engine.feed_block.Goals as goal
 
@@ -31,63 +32,71 @@ module _ (first old new : Engine) (at n : ℕ) (piece : List ℕ) (taken : Fed) 
       (subst (λ (p : Plan). FedAs (Answers p [] Going) (Answers p es taken.flow) (u ++ placed_from at (take n piece)) (at + n) (take taken.bytes (take (length piece - n) (drop n piece)))) same
       (gave (u ++ placed_from at (take n piece)) (before u h)))
 
+-- where it goes on, no fault is kept
+none_kept : (stop : Option Stop) → goes_on (flow_to stop) ≡ true → stop ≡ None
+none_kept None h = refl
+none_kept (Some stop) h = search rules
+
 pub returns-then-not-is_empty-clause-takes : goal.returns-then-not-is_empty-clause-takes
 returns-then-not-is_empty-clause-takes c =
-    let one = c.take_framed-fed.ensures.takes in
+    let one = c.take_framed-bytes.ensures.takes in
     let i = c.loop-bytes.invariant in
     record {
       same = one.same ∙ i.same;
       bytes = (let a = one.bytes in let b = i.within in let d = length-drop c.loop-bytes.bytes c.args.piece.now in omega (arith, a, b, d), omega arith);
       next = (let a = one.next in omega arith);
-      live = one.live;
-      list = list c.args.self.now c.loop-bytes.self c.take_framed-fed.new.self c.args.at c.loop-bytes.bytes c.args.piece.now c.take_framed-fed.result c.take_framed-fed.ensures.fed.0
-          i.within i.same i.list i.quiet one c.take_framed-fed.ensures.fed.2;
+      live = one.live ∙ ap goes_on (sym c.flow_of.ensures);
+      list = list c.args.self.now c.loop-bytes.self c.take_framed-bytes.new.self c.args.at c.loop-bytes.bytes c.args.piece.now (fed_by c.take_framed-bytes.result c.take_framed-bytes.new.stop) c.take_framed-bytes.ensures.fed.0
+          i.within i.same i.list i.quiet one c.take_framed-bytes.ensures.fed.2;
     }
 
 pub returns-then-not-is_empty-clause-fits : goal.returns-then-not-is_empty-clause-fits
 returns-then-not-is_empty-clause-fits c =
-    let t = c.take_framed-fed.ensures.fed in
+    let t = c.take_framed-bytes.ensures.fed in
     subst (λ (l : List (Event Packet)). AllFit PacketFits l)
     (sym (t.1.0 ∙ ap (λ (l : List (Event Packet)). l ++ t.0) c.loop-bytes.invariant.empty)) t.1.1
 
 pub returns-then-not-is_empty-clause-fed : goal.returns-then-not-is_empty-clause-fed
 returns-then-not-is_empty-clause-fed c =
     let i = c.loop-bytes.invariant in
-    let t = c.take_framed-fed.ensures.fed in
-    subst (λ (l : List (Event Packet)). GivesLast c.args.self.now c.args.at (take (c.loop-bytes.bytes + c.take_framed-fed.result.bytes) c.args.piece.now) c.take_framed-fed.result.flow l)
+    let t = c.take_framed-bytes.ensures.fed in
+    subst (λ (f : Flow). GivesLast c.args.self.now c.args.at (take (c.loop-bytes.bytes + c.take_framed-bytes.result) c.args.piece.now) f c.take_framed-bytes.new.out.items)
+    (sym c.flow_of.ensures)
+    (subst (λ (l : List (Event Packet)). GivesLast c.args.self.now c.args.at (take (c.loop-bytes.bytes + c.take_framed-bytes.result) c.args.piece.now) (flow_to c.take_framed-bytes.new.stop) l)
     (sym (t.1.0 ∙ ap (λ (l : List (Event Packet)). l ++ t.0) i.empty))
-    (fed c.args.self.now c.loop-bytes.self c.take_framed-fed.new.self c.args.at c.loop-bytes.bytes c.args.piece.now c.take_framed-fed.result t.0
-    i.within i.same i.list i.quiet c.take_framed-fed.ensures.takes t.2)
+    (fed c.args.self.now c.loop-bytes.self c.take_framed-bytes.new.self c.args.at c.loop-bytes.bytes c.args.piece.now (fed_by c.take_framed-bytes.result c.take_framed-bytes.new.stop) t.0
+    i.within i.same i.list i.quiet c.take_framed-bytes.ensures.takes t.2))
 
 pub loop-bytes-preserved : goal.loop-bytes-preserved
 loop-bytes-preserved c =
     let i = c.loop-bytes.invariant in
     let n = c.loop-bytes.bytes in
     let piece = c.args.piece.now in
-    let one = c.take_framed-fed.ensures.takes in
-    let t = c.take_framed-fed.ensures.fed in
-    let m = c.take_framed-fed.result.bytes in
+    let one = c.take_framed-bytes.ensures.takes in
+    let t = c.take_framed-bytes.ensures.fed in
+    let m = c.take_framed-bytes.result in
     let quiet = Answers c.args.self.now.plan [] Going in
-    let empty = none_in c.take_framed-fed.new.out.items (array_vec_len c.take_framed-fed.new.out) refl (sym c.is_empty.ensures ∙ c.if-not-is_empty.false) in
+    let empty = none_in c.take_framed-bytes.new.out.items (array_vec_len c.take_framed-bytes.new.out) refl (sym c.is_empty.ensures ∙ c.if-not-is_empty.false) in
     let none : t.0 ≡ [] = sym (t.1.0 ∙ ap (λ (l : List (Event Packet)). l ++ t.0) i.empty) ∙ empty in
-    let going = going_on c.take_framed-fed.result.flow (sym one.live ∙ c.if-not-self.false) in
+    let going = going_on (flow_to c.take_framed-bytes.new.stop) (sym one.live ∙ c.if-not-self.false) in
     let rest = length-drop n piece in
     let tail = tail_of n piece in
     let left = ap length tail in
     record {
       within = (let a = one.bytes.1 in let b = i.within in omega arith);
       live = c.if-not-self.false;
+      sound = none_kept c.take_framed-bytes.new.stop (sym one.live ∙ c.if-not-self.false);
       empty = empty;
       same = one.same ∙ i.same;
       next = (let a = one.next in omega arith);
       next_is = λ k. (let a = one.next in omega arith);
-      list = list c.args.self.now c.loop-bytes.self c.take_framed-fed.new.self c.args.at n piece c.take_framed-fed.result t.0
+      list = list c.args.self.now c.loop-bytes.self c.take_framed-bytes.new.self c.args.at n piece (fed_by c.take_framed-bytes.result c.take_framed-bytes.new.stop) t.0
           i.within i.same i.list i.quiet one t.2;
       quiet = λ u h.
           fed_each quiet (take (n + m) piece) u c.args.at
           (subst (λ (es : List (Event Packet)). FedAs quiet (Answers c.args.self.now.plan es Going) u c.args.at (take (n + m) piece)) none
           (subst (λ (f : Flow). FedAs quiet (Answers c.args.self.now.plan t.0 f) u c.args.at (take (n + m) piece)) going
-          (fed c.args.self.now c.loop-bytes.self c.take_framed-fed.new.self c.args.at n piece c.take_framed-fed.result t.0
+          (fed c.args.self.now c.loop-bytes.self c.take_framed-bytes.new.self c.args.at n piece (fed_by c.take_framed-bytes.result c.take_framed-bytes.new.stop) t.0
           i.within i.same i.list i.quiet one t.2 u h)));
     }
 

@@ -1,4 +1,4 @@
-use Rattle.std.proofs.Common.{◌≡◌, ◌+◌, ◌-◌, ◌<◌, ◌≤◌, List, [], ◌++◌, length, take, true}
+use Rattle.std.proofs.Common.{◌≡◌, ◌+◌, ◌-◌, ◌<◌, ◌≤◌, List, [], ◌++◌, length, take, true, None}
 use Rattle.source_merge.specs.Names.{Placed, placed_from, EachByte}
 use Rattle.source_merge.specs.Answering.{Answers}
 use Rattle.source_merge.specs.declared.flow.Flow.TheVariants.{Going}
@@ -10,6 +10,7 @@ abbrev pub invariant-loop-bytes : goal.invariant-loop-bytes
 invariant-loop-bytes l = record {
   within : l.bytes ≤ length l.piece;
   live : is_live l.self ≡ true;
+  sound : l.stop ≡ None;
   empty : l.out.items ≡ [];
   same : plan_of l.self ≡ plan_of l.fn.self;
   next : next_of l.self ≤ l.at + l.bytes;

@@ -3,8 +3,9 @@ use Rattle.std.proofs.lemmas.List.{length-take-le, take_at}
 use Rattle.source_merge.specs.Names.{placed_from}
 use Rattle.source_merge.specs.declared.engine.Engine.{Engine}
 use Rattle.source_merge.specs.declared.flow.Fed.{Fed}
+use Rattle.source_merge.specs.Answering.{flow_to}
 use Rattle.source_merge.specs.Engine.{Stands}
-use Rattle.source_merge.specs.Front.{ReadsTo, TakesFront}
+use Rattle.source_merge.specs.Front.{ReadsTo, TakesFront, fed}
 use Rattle.source_merge.specs.Giving.{GivesTo}
 use Rattle.source_merge.proofs.engine.Engine.take_bare.Goals as goal
 
@@ -37,15 +38,15 @@ takes old new at count bs piece taken e h = record {
 
 pub returns-then-piece-gt-END_ROOM-clause-takes : goal.returns-then-piece-gt-END_ROOM-clause-takes
 returns-then-piece-gt-END_ROOM-clause-takes g c =
-    takes c.args.self.now c.take_piece.new.self c.args.at c.min-count.result _ c.args.piece.now c.take_piece.result refl
+    takes c.args.self.now c.take_piece.new.self c.args.at c.min-count.result _ c.args.piece.now (fed c.take_piece.result c.take_piece.new.stop) refl
     c.take_piece.ensures.takes
 
 pub returns-then-piece-gt-END_ROOM-clause-reads : goal.returns-then-piece-gt-END_ROOM-clause-reads
 returns-then-piece-gt-END_ROOM-clause-reads g c =
     subst
     (λ (l : List ℕ). GivesTo g.V.Receiver.gets (c.args.out.now, c.args.to.now) (c.take_piece.new.out, c.take_piece.new.to)
-    (ReadsTo c.args.self.now c.args.at l c.take_piece.result.flow))
-    (same c.take_piece.result.bytes c.min-count.result _ c.args.piece.now refl c.take_piece.ensures.takes.bytes.1)
+    (ReadsTo c.args.self.now c.args.at l (flow_to c.take_piece.new.stop)))
+    (same c.take_piece.result c.min-count.result _ c.args.piece.now refl c.take_piece.ensures.takes.bytes.1)
     c.take_piece.ensures.reads
 
 -- the bytes that are copied to the front of others are those of the piece
@@ -56,7 +57,7 @@ copied count bytes rest piece within e =
 
 pub returns-clause-takes : goal.returns-clause-takes
 returns-clause-takes g c =
-    takes c.args.self.now c.take_piece-2.new.self c.args.at c.min-count-2.result _ c.args.piece.now c.take_piece-2.result
+    takes c.args.self.now c.take_piece-2.new.self c.args.at c.min-count-2.result _ c.args.piece.now (fed c.take_piece-2.result c.take_piece-2.new.stop)
     (copied c.min-count-2.result c.copy_from_slice.new.self _ c.args.piece.now
     (let w : c.min-count-2.result ≤ length c.args.piece.now = search rules in w) c.copy_from_slice.ensures.after)
     c.take_piece-2.ensures.takes
@@ -65,8 +66,8 @@ pub returns-clause-reads : goal.returns-clause-reads
 returns-clause-reads g c =
     subst
     (λ (l : List ℕ). GivesTo g.V.Receiver.gets (c.args.out.now, c.args.to.now) (c.take_piece-2.new.out, c.take_piece-2.new.to)
-    (ReadsTo c.args.self.now c.args.at l c.take_piece-2.result.flow))
-    (same c.take_piece-2.result.bytes c.min-count-2.result _ c.args.piece.now
+    (ReadsTo c.args.self.now c.args.at l (flow_to c.take_piece-2.new.stop)))
+    (same c.take_piece-2.result c.min-count-2.result _ c.args.piece.now
     (copied c.min-count-2.result c.copy_from_slice.new.self _ c.args.piece.now
     (let w : c.min-count-2.result ≤ length c.args.piece.now = search rules in w) c.copy_from_slice.ensures.after)
     c.take_piece-2.ensures.takes.bytes.1)

@@ -9,7 +9,7 @@ use Rattle.source_merge.specs.Names.{frame_places, runs_in}
 use Rattle.frame_grammar.proofs.Wholes.{whole_size}
 use Rattle.source_merge.specs.declared.slot.Slot.{Slot}
 use Rattle.source_merge.specs.Engine.{Stands}
-use Rattle.source_merge.specs.Answering.{port_of, fault_of}
+use Rattle.source_merge.specs.Answering.{flow_to, port_of, fault_of}
 use Rattle.source_merge.specs.Routing.{AllStand, AreDistinct}
 use Rattle.source_merge.specs.Stepping.{StepAt, TakesStep}
 use Rattle.source_merge.proofs.Standing.{distinct, none_there, tested, none_of}
@@ -48,7 +48,7 @@ invariant_of-self g c =
     }
 
 -- what the frame makes of a list that the engine stood for
-module _ (g : bound.Over) (c : goal.After-flow_of g) (u : List Placed) (w : List ℕ) (h : Stands c.args.self.now u)
+module _ (g : bound.Over) (c : goal.After-keep g) (u : List Placed) (w : List ℕ) (h : Stands c.args.self.now u)
     (q : IsGathered c.args.frame.now.at w c.args.frame.now) where
   abbrev plan : Plan
   plan = c.args.self.now.plan
@@ -99,11 +99,11 @@ module _ (g : bound.Over) (c : goal.After-flow_of g) (u : List Placed) (w : List
   step = record { at = last; step = Frame; cells = got }
 
   the_step : Stepped plan slots h.sources (30 * c.args.self.now.count) (c.args.self.now.ready c.requires.live) c.take_whole-taken.new.slots c.take_whole-taken.new.counters u c.args.frame.now.at w
-      es c.take_whole-taken.result.stop c.flow_of.result
+      es c.take_whole-taken.result.stop (flow_to c.keep.new.kept)
   the_step =
       let halves = c.args.self.now.counters.port.halves + c.args.frame.now.halves in
       stepped plan slots h.sources (30 * c.args.self.now.count) (c.args.self.now.ready c.requires.live) c.take_whole-taken.new.slots c.args.self.now.counters c.take_whole-taken.new.counters
-      halves step es c.take_whole-taken.result.stop c.flow_of.result u c.args.frame.now.at w
+      halves step es c.take_whole-taken.result.stop (flow_to c.keep.new.kept) u c.args.frame.now.at w
       on.rise (none_there (fault_of plan u) (sym h.live ∙ c.requires.live)) (h.going c.requires.live) h.counted
       (subst (λ (ss : List (Mapped Packet)). AreDistinct ss) (sym h.sources) (distinct plan c.args.self.now.sound))
       fed
@@ -112,7 +112,7 @@ module _ (g : bound.Over) (c : goal.After-flow_of g) (u : List Placed) (w : List
       (subst (λ (l : List Slot). TakesStep step l c.take_whole-taken.new.slots c.take_whole-taken.result.stop es) c.as_mut_slice.ensures.value
       c.take_whole-taken.ensures.taken.2.0)
       c.take_whole-taken.ensures.taken.2.1
-      c.flow_of.ensures.fault
+      c.keep.ensures.fault
 
 pub returns-clause-fed : goal.returns-clause-fed
 returns-clause-fed g c =
@@ -125,7 +125,7 @@ returns-clause-takes g c =
     record {
       same = refl;
       next = ap (λ (n : ℕ). c.args.frame.now.at + n) c.size-bytes.ensures;
-      live = gone ∙ sym c.flow_of.ensures.going;
+      live = gone ∙ sym c.keep.ensures.going;
       list = λ u w h q.
           let self = c.args.self.now in
           let at = c.args.frame.now.at in

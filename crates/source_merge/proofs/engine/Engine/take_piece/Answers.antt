@@ -11,7 +11,7 @@ use Rattle.source_merge.specs.declared.engine.Engine.{Engine}
 use Rattle.source_merge.specs.declared.piece.PieceRun.{PieceRun}
 use Rattle.source_merge.specs.Engine.{Stands}
 use Rattle.source_merge.specs.Front.{IsBare, IsCertain}
-use Rattle.source_merge.specs.Answering.{fault_by, fault_of, goes_on, port_of, report_of}
+use Rattle.source_merge.specs.Answering.{fault_by, fault_of, flow_to, goes_on, port_of, report_of}
 use Rattle.source_merge.specs.Counting.{HasCounted}
 use Rattle.source_merge.specs.Piece.{bytes_in, piece_cells}
 use Rattle.source_merge.specs.Routing.{mapped_of, AllStand, AreReady, AreDistinct, SlotFed, SlotPlace}
@@ -133,7 +133,7 @@ invariant_of-self g c =
     }
 
 -- what the run makes of a list that the engine stood for
-module _ (g : bound.Over) (c : goal.After-flow_of g) where
+module _ (g : bound.Over) (c : goal.After-keep g) where
   abbrev self : Engine
   self = c.args.self.now
 
@@ -219,9 +219,9 @@ module _ (g : bound.Over) (c : goal.After-flow_of g) where
     fault_now (Some x) e =
         ap (λ (l : List ℕ). fault_of plan (u ++ placed_from run.at l)) (up_to x e) ∙ (made.stops x e).stops
 
-    flow_is : fault_by c.flow_of.result ≡ option_map stop_of (stopped fault)
+    flow_is : fault_by (flow_to c.keep.new.kept) ≡ option_map stop_of (stopped fault)
     flow_is =
-        c.flow_of.ensures.fault ∙ ap (λ (o : Option Stop). option_map stop_of o) c.stop_by.ensures
+        c.keep.ensures.fault ∙ ap (λ (o : Option Stop). option_map stop_of o) c.stop_by.ensures
         ∙ ap (λ (n : ℕ). option_map stop_of (option_map (λ (f : Fault). (let s : Stop = record { fault = f; source = Some n } in s)) fault)) c.bare_source-source.ensures
 
     grew : (o : Option Fault) → fault ≡ o → report_of plan (u ++ placed_from run.at taken) ≡ report_of plan u ++ given
@@ -237,9 +237,9 @@ module _ (g : bound.Over) (c : goal.After-flow_of g) where
       sound = (made.stops x e).sound;
     }
 
-  goes : goes_on c.flow_of.result ≡ is_none fault
+  goes : goes_on (flow_to c.keep.new.kept) ≡ is_none fault
   goes =
-      c.flow_of.ensures.going ∙ ap (λ (s : Option Stop). is_none s) c.stop_by.ensures
+      c.keep.ensures.going ∙ ap (λ (s : Option Stop). is_none s) c.stop_by.ensures
       ∙ ap (λ (n : ℕ). is_none (option_map (λ (f : Fault). (let s : Stop = record { fault = f; source = Some n } in s)) fault)) c.bare_source-source.ensures
       ∙ none_stopped fault
 

@@ -2,13 +2,13 @@ use Rattle.std.proofs.Common.{ℕ, ◌+◌, ◌*◌, ◌++◌, [], take, sym, su
 use Rattle.frame_grammar.proofs.Wholes.{whole_proper}
 use Rattle.frame_runs.specs.Gathered.{IsGathered}
 use Rattle.source_merge.specs.Names.{FedAs, placed_from}
-use Rattle.source_merge.specs.Answering.{Answers}
+use Rattle.source_merge.specs.Answering.{Answers, flow_to}
 use Rattle.source_merge.specs.declared.flow.Flow.TheVariants.{Going}
 use Rattle.source_merge.specs.Engine.{Stands, plan_of}
 use Rattle.source_merge.proofs.engine.Engine.take_placed.Goals as goal
 
-pub take_gathered-flow-requires-clause-proper : goal.take_gathered-flow-requires-clause-proper
-take_gathered-flow-requires-clause-proper g c =
+pub take_gathered-requires-clause-proper : goal.take_gathered-requires-clause-proper
+take_gathered-requires-clause-proper g c =
     let frame = c.args.frame.now in
     whole_proper (take (16 + 2 * frame.halves) c.args._piece.now) frame.bytes frame.halves c.requires.gathered.whole
 
@@ -17,11 +17,11 @@ returns g c =
     let frame = c.args.frame.now in
     let piece = c.args._piece.now in
     let bytes = take (16 + 2 * frame.halves) piece in
-    let new = c.take_gathered-flow.new.self in
-    let took = c.take_gathered-flow.ensures in
+    let new = c.take_gathered.new.self in
+    let took = c.take_gathered.ensures in
     let fed = took.fed in
     let quiet = Answers (plan_of c.args.self.now) [] Going in
-    let last = Answers (plan_of c.args.self.now) fed.0 c.take_gathered-flow.result in
+    let last = Answers (plan_of c.args.self.now) fed.0 (flow_to c.take_gathered.new.stop) in
     let size = c.size.ensures in
     let room = c.requires.room in
     let at_is = c.requires.at in
