@@ -114,9 +114,16 @@ pub fn feed_slot<R: Run, V: Receiver>(
         slots.old ≡ place.front ++ (place.slot ∷ place.back) → length place.front ≡ index →
         SlotFed place slots.new (record { run = R.cells run.now; source = id; events = given; fault = result })) }
 {
+    let mut fault = None;
     match &mut slots[index].machine {
-        SourceMachine::Itm(decoder) => feed_run(decoder, id, run, items, out, to),
-        SourceMachine::Stp(decoder) => feed_run(decoder, id, run, items, out, to),
+        SourceMachine::Itm(decoder) => {
+            feed_run(decoder, id, run, &mut fault, items, out, to);
+            fault
+        }
+        SourceMachine::Stp(decoder) => {
+            feed_run(decoder, id, run, &mut fault, items, out, to);
+            fault
+        }
     }
 }
 

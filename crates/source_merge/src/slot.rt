@@ -217,70 +217,64 @@ fn look<M: Finds>(
     }
 }
 
-/// What was fed of a run.
-#[derive(Clone, Copy, Drop)]
-struct RunStep {
-    /// How many bytes.
-    bytes: usize,
-    /// The fault that the last of them told.
-    fault: Option<Fault>,
-}
-
 /// Feeds bytes of a run of this source, from this index on, to its machine, and gives their events: those up to the one
-/// in which a packet ends, or one byte where nothing is known of them.
+/// in which a packet ends, or one byte where nothing is known of them. Answers how many bytes, and keeps the fault that
+/// the last of them told.
 #[inline(never)]
 fn feed_slowly<M: Finds, R: Run, V: Receiver>(
     machine: &mut M,
     source: SourceId,
     run: &R,
     done: usize,
+    fault: &mut Option<Fault>,
     items: &mut PerSource,
     out: &mut V,
     to: &mut V::To,
-) -> RunStep
+) -> usize
     requires live { M.live machine.old ≡ true }
+    requires sound { fault.old ≡ None }
     requires done { done < length (R.cells run.now) }
     requires units { M.held_units machine.old + M.skipped_units machine.old + 2 * length (R.cells run.now) ≤
         COUNT_ROOM + 2 * done }
     requires room { HasRoom V.room (2 * (length (R.cells run.now) - done)) (items.old, (out.old, to.old)) }
-    ensures bytes { (0 < result.bytes) × (done + result.bytes ≤ length (R.cells run.now)) }
-    ensures fed { Gives V.gets V.room (2 * result.bytes) (items.old, (out.old, to.old)) (items.new, (out.new, to.new))
+    ensures bytes { (0 < result) × (done + result ≤ length (R.cells run.now)) }
+    ensures fed { Gives V.gets V.room (2 * result) (items.old, (out.old, to.old)) (items.new, (out.new, to.new))
         (λ given. PartFed (record {
           reading = M.reads;
           stands = M.stands;
           live = M.live;
           held = M.held_units;
           skipped = M.skipped_units;
-        }) machine.old machine.new done result.bytes
-        (record { run = R.cells run.now; source = source; events = given; fault = result.fault })) }
+        }) machine.old machine.new done result
+        (record { run = R.cells run.now; source = source; events = given; fault = fault.new })) }
 {
     let bytes = &run.ahead()[done..run.len()];
     if let Some(taken) = machine.take(bytes) {
         let at = run.cell(done + taken.bytes - 1).at;
         let bytes = taken.bytes;
         give_packet(items, out, to, source, at, taken);
-        return RunStep { bytes, fault: None };
+        return bytes;
     }
     let cell = run.cell(done);
     let step = machine.step(cell.at, cell.byte);
-    RunStep {
-        bytes: 1,
-        fault: give_step(items, out, to, source, cell.at, step),
-    }
+    *fault = give_step(items, out, to, source, cell.at, step);
+    1
 }
 
-/// Feeds a run of this source to its machine, up to a fault, and gives its events. It takes a packet at once, also one
-/// that runs before it began, and the part of one that the next run ends.
+/// Feeds a run of this source to its machine, up to a fault, which it keeps, and gives its events. It takes a packet at
+/// once, also one that runs before it began, and the part of one that the next run ends.
 #[inline(never)]
 pub fn feed_run<M: GivesTold, R: Run, V: Receiver>(
     machine: &mut M,
     source: SourceId,
     run: &R,
+    fault: &mut Option<Fault>,
     items: &mut PerSource,
     out: &mut V,
     to: &mut V::To,
-) -> Option<Fault>
+)
     requires live { M.live machine.old ≡ true }
+    requires sound { fault.old ≡ None }
     requires size { length (R.cells run.now) ≤ FRAME_ROOM }
     requires units { M.held_units machine.old + M.skipped_units machine.old + 2 * length (R.cells run.now) ≤
         COUNT_ROOM }
@@ -293,7 +287,7 @@ pub fn feed_run<M: GivesTold, R: Run, V: Receiver>(
           held = M.held_units;
           skipped = M.skipped_units;
         }) machine.old machine.new
-        (record { run = R.cells run.now; source = source; events = given; fault = result })) }
+        (record { run = R.cells run.now; source = source; events = given; fault = fault.new })) }
 {
     let takes_told = out.takes_told(source, machine.kind());
     let ahead = run.ahead();
@@ -313,13 +307,12 @@ pub fn feed_run<M: GivesTold, R: Run, V: Receiver>(
             }
             Found::Waits => done = run.len(),
             Found::Unknown => {
-                let step = feed_slowly(machine, source, run, done, items, out, to);
-                done += step.bytes;
-                if let Some(fault) = step.fault {
-                    return Some(fault);
+                let bytes = feed_slowly(machine, source, run, done, fault, items, out, to);
+                done += bytes;
+                if let Some(_fault) = *fault {
+                    return;
                 }
             }
         }
     }
-    None
 }

@@ -1,11 +1,11 @@
-use Rattle.std.proofs.Common.{ℕ, ◌+◌, ◌-◌, ◌*◌, ◌<◌, ◌≤◌, [], length, subst, arith, Some, None, Option}
+use Rattle.std.proofs.Common.{ℕ, ◌+◌, ◌-◌, ◌*◌, ◌<◌, ◌≤◌, [], length, subst, sym, arith, Some, None, Option}
 use Rattle.source_merge.specs.Names.{Fault, Packet, SourceKind, given_after, told, lifted, told_in}
 use Rattle.source_merge.specs.declared.counts.PerSource.{PerSource}
-use Rattle.source_merge.specs.Feeding.{MachineKind, PartFed}
+use Rattle.source_merge.specs.Feeding.{MachineFed, MachineKind, PartFed}
 use Rattle.source_merge.proofs.FedRuns.{FedSoFar, begun, by_part, fed_all, fed_kept, fed_on, last_is, last_of, stopped}
 use Rattle.source_merge.proofs.Givings.{given_none, given_within}
 use Rattle.source_merge.proofs.slot.feed_run.Given as bound
-use Rattle.source_merge.proofs.slot.feed_run.Goals.{After-feed_slowly-step}
+use Rattle.source_merge.proofs.slot.feed_run.Goals.{After-feed_slowly-bytes}
 use Rattle.source_merge.proofs.slot.feed_run.Goals as goal
 
 -- the kind of its machine
@@ -23,6 +23,7 @@ loop-done-init g c = record {
   fed =
       begun (kind g) g.V.Receiver.gets g.V.Receiver.room c.args.machine.now (c.args.items.now, (c.args.out.now, c.args.to.now))
       (g.R.Run.cells c.args.run.now) c.args.source (λ m u s. (g.met.M.Finds.reads_shows m u s).live_is) g.met.V.Receiver.adds_up.none c.requires.live;
+  sound = c.requires.sound;
   taking = λ t.
       subst (λ (k : SourceKind). g.V.Receiver.takes c.args.out.now c.args.source k) c.kind.ensures (c.takes_told-takes_told.ensures.0 t);
 }
@@ -58,6 +59,7 @@ loop-done-preserved-in-Ends g c = record {
             (g.M.Machine.stands c.end-taken.new.self) step found.passes;
         early = tt;
       });
+  sound = c.loop-done.invariant.sound;
   taking = λ t. g.met.V.Receiver.takes_on _ _ _ _ _ c.give_told.ensures.received (c.loop-done.invariant.taking t);
 }
 
@@ -89,11 +91,12 @@ loop-done-preserved-in-Waits g c = record {
             (g.M.Machine.stands c.look.new.machine) None (c.look.ensures.waits c.in-Waits.is);
         early = tt;
       }));
+  sound = c.loop-done.invariant.sound;
   taking = c.loop-done.invariant.taking;
 }
 
 -- a look that told nothing of the bytes took none
-kept : (g : bound.Over) (c : After-feed_slowly-step g) →
+kept : (g : bound.Over) (c : After-feed_slowly-bytes g) →
     FedSoFar (kind g) g.V.Receiver.gets g.V.Receiver.room c.args.machine.now (c.args.items.now, (c.args.out.now, c.args.to.now))
     (g.R.Run.cells c.args.run.now) c.args.source c.loop-done.done c.look.new.machine (c.loop-done.items, (c.loop-done.out, c.loop-done.to))
 kept g c =
@@ -104,26 +107,39 @@ kept g c =
 pub loop-done-preserved : goal.loop-done-preserved
 loop-done-preserved g c = record {
   fed =
-      let step = c.feed_slowly-step.ensures in
+      let step = c.feed_slowly-bytes.ensures in
       fed_on (kind g) g.V.Receiver.gets g.V.Receiver.room c.args.machine.now (c.args.items.now, (c.args.out.now, c.args.to.now)) _ c.args.source
-      c.loop-done.done _ c.look.new.machine c.feed_slowly-step.new.machine _ _ _ (kept g (goal.at.loop-done-preserved g c).After-feed_slowly-step)
+      c.loop-done.done _ c.look.new.machine c.feed_slowly-bytes.new.machine _ _ _ (kept g (goal.at.loop-done-preserved g c).After-feed_slowly-bytes)
       step.fed.1 g.met.V.Receiver.adds_up.more step.bytes.1
-      (subst (λ (f : Option Fault). PartFed (kind g) c.look.new.machine c.feed_slowly-step.new.machine c.loop-done.done c.feed_slowly-step.result.bytes
+      (subst (λ (f : Option Fault). PartFed (kind g) c.look.new.machine c.feed_slowly-bytes.new.machine c.loop-done.done c.feed_slowly-bytes.result
       (record { run = g.R.Run.cells c.args.run.now; source = c.args.source; events = step.fed.0; fault = f })) c.in_default.is step.fed.2);
-  taking = λ t. g.met.V.Receiver.takes_on _ _ _ _ _ c.feed_slowly-step.ensures.fed.1.received (c.loop-done.invariant.taking t);
+  sound = c.in_default.is;
+  taking = λ t. g.met.V.Receiver.takes_on _ _ _ _ _ c.feed_slowly-bytes.ensures.fed.1.received (c.loop-done.invariant.taking t);
 }
 
 pub returns-in-Some : goal.returns-in-Some
 returns-in-Some g c =
-    let step = c.feed_slowly-step.ensures in
+    let step = c.feed_slowly-bytes.ensures in
+    let all =
     stopped (kind g) g.V.Receiver.gets g.V.Receiver.room c.args.machine.now (c.args.items.now, (c.args.out.now, c.args.to.now)) _ c.args.source
-    c.loop-done.done _ c.look.new.machine c.feed_slowly-step.new.machine _ _ _ (kept g (goal.at.returns-in-Some g c).After-feed_slowly-step)
-    step.fed.1 g.met.V.Receiver.adds_up.more g.met.M.Finds.reads_settles step.bytes.1 c.in-Some.fault
-    (subst (λ (f : Option Fault). PartFed (kind g) c.look.new.machine c.feed_slowly-step.new.machine c.loop-done.done c.feed_slowly-step.result.bytes
-    (record { run = g.R.Run.cells c.args.run.now; source = c.args.source; events = step.fed.0; fault = f })) c.in-Some.is step.fed.2)
+    c.loop-done.done _ c.look.new.machine c.feed_slowly-bytes.new.machine _ _ _ (kept g (goal.at.returns-in-Some g c).After-feed_slowly-bytes)
+    step.fed.1 g.met.V.Receiver.adds_up.more g.met.M.Finds.reads_settles step.bytes.1 c.in-Some._fault
+    (subst (λ (f : Option Fault). PartFed (kind g) c.look.new.machine c.feed_slowly-bytes.new.machine c.loop-done.done c.feed_slowly-bytes.result
+    (record { run = g.R.Run.cells c.args.run.now; source = c.args.source; events = step.fed.0; fault = f })) c.in-Some.is step.fed.2) in (
+      all.0,
+      all.1,
+      subst (λ (f : Option Fault). MachineFed (kind g) c.args.machine.now c.feed_slowly-bytes.new.machine
+          (record { run = g.R.Run.cells c.args.run.now; source = c.args.source; events = all.0; fault = f })) (sym c.in-Some.is) all.2,
+    )
 
 pub returns : goal.returns
 returns g c =
+    let all =
     fed_all (kind g) g.V.Receiver.gets g.V.Receiver.room c.args.machine.now (c.args.items.now, (c.args.out.now, c.args.to.now))
     (g.R.Run.cells c.args.run.now) c.args.source c.loop-done.done c.loop-done.machine (c.loop-done.items, (c.loop-done.out, c.loop-done.to))
-    (let a = c.loop-done-test.false in let b = c.len.ensures in omega arith) c.loop-done.invariant.fed
+    (let a = c.loop-done-test.false in let b = c.len.ensures in omega arith) c.loop-done.invariant.fed in (
+      all.0,
+      all.1,
+      subst (λ (f : Option Fault). MachineFed (kind g) c.args.machine.now c.loop-done.machine
+          (record { run = g.R.Run.cells c.args.run.now; source = c.args.source; events = all.0; fault = f })) (sym c.loop-done.invariant.sound) all.2,
+    )

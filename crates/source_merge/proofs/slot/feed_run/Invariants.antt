@@ -1,4 +1,4 @@
-use Rattle.std.proofs.Common.{◌≡◌, true, length, ◌-◌}
+use Rattle.std.proofs.Common.{◌≡◌, true, length, ◌-◌, None}
 use Rattle.source_merge.proofs.FedRuns.{FedSoFar}
 use Rattle.source_merge.proofs.slot.feed_run.Given as goal
 
@@ -15,6 +15,7 @@ invariant-loop-done g l = record {
         skipped = g.M.Machine.skipped_units;
       }) g.V.Receiver.gets g.V.Receiver.room l.fn.machine (l.fn.items, (l.fn.out, l.fn.to)) (g.R.Run.cells l.run) l.source
       l.done l.machine (l.items, (l.out, l.to));
+  sound : l.fault ≡ None;
   taking : l.takes_told ≡ true → g.V.Receiver.takes l.out l.source g.M.Finds.kind;
 }
 

@@ -1,8 +1,8 @@
 use Rattle.std.proofs.Common.{◌≡◌, ℕ, ◌+◌, ◌-◌, ◌*◌, ◌<◌, ◌≤◌, ◌++◌, [], ◌∷◌, List, length, take, drop, get_or, refl, sym, ◌∙◌, ap, subst, arith, Some, None, Option}
 use Rattle.std.specs.Prelude.{is_none}
 use Rattle.std.proofs.lemmas.List.{drop_more, take_more, take-append-drop, length-drop, length-take-le}
-use Rattle.source_merge.specs.Names.{Cell, Fault, given_by, given_after, item_at, told, lifted, placed_run, RisesFrom}
-use Rattle.source_merge.specs.Feeding.{IsEarlyFrom}
+use Rattle.source_merge.specs.Names.{Cell, Fault, Packet, given_by, given_after, item_at, told, lifted, placed_run, RisesFrom}
+use Rattle.source_merge.specs.Feeding.{IsEarlyFrom, MachineKind, PartFed}
 use Rattle.source_merge.proofs.RunSteps.{goes_as, feeds_more, feeds_kept, grown_as}
 use Rattle.source_merge.proofs.Packets.{feeds_part, front, packet_parts, packet_bytes}
 use Rattle.source_merge.proofs.Early.{early}
@@ -21,6 +21,16 @@ rest_length run done n ahead e l long count h =
     let d = length-drop done ahead in
     let t = length-take-le (n - done) (drop done ahead) (omega (arith, d, e, l, long)) in
     omega (arith, h, t, e, l)
+
+-- the kind of its machine
+abbrev kind : (g : given.Over) → MachineKind g.row.M.Denot Packet
+kind g = record {
+  reading = g.M.Finds.reads;
+  stands = g.M.Machine.stands;
+  live = g.M.Machine.live;
+  held = g.M.Machine.held_units;
+  skipped = g.M.Machine.skipped_units;
+}
 
 pub returns-in-Some-clause-fed : goal.returns-in-Some-clause-fed
 returns-in-Some-clause-fed g c =
@@ -43,19 +53,20 @@ returns-in-Some-clause-fed g c =
     let es = told (Some c.args.source) (lifted (given_after last.at step)) in (
       es,
       given_within g.V.Receiver.gets g.V.Receiver.room 1 (2 * taken.bytes) _ _ es (omega arith) c.give_packet.ensures,
-      record {
-        same = c.take.ensures.same;
-        live = c.take.ensures.live;
-        few = found.few;
-        feeds = λ u old h.
-            subst (λ (l : List Cell). FeedsBy reading now u l c.args.source (old ++ es) None)
-            (sym (packet_parts run done taken.bytes last some within is))
-            (feeds_part reading u c.args.source was now (take done run) before last step old h
-            (λ w k. found.passes w (placed_run before) last.at last.byte k
-            (packet_bytes run done taken.bytes last some within is ahead c.ahead.ensures.bytes long
-            ∙ ap (λ (n : ℕ). take taken.bytes (take (n - done) (drop done ahead))) (sym bound))));
-        early = tt;
-      },
+      subst (λ (f : Option Fault). PartFed (kind g) c.args.machine.now c.take.new.self done taken.bytes
+          (record { run = run; source = c.args.source; events = es; fault = f })) (sym c.requires.sound) (record {
+            same = c.take.ensures.same;
+            live = c.take.ensures.live;
+            few = found.few;
+            feeds = λ u old h.
+                subst (λ (l : List Cell). FeedsBy reading now u l c.args.source (old ++ es) None)
+                (sym (packet_parts run done taken.bytes last some within is))
+                (feeds_part reading u c.args.source was now (take done run) before last step old h
+                (λ w k. found.passes w (placed_run before) last.at last.byte k
+                (packet_bytes run done taken.bytes last some within is ahead c.ahead.ensures.bytes long
+                ∙ ap (λ (n : ℕ). take taken.bytes (take (n - done) (drop done ahead))) (sym bound))));
+            early = tt;
+          }),
     )
 
 -- before a fault that was told
