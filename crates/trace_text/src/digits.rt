@@ -67,7 +67,9 @@ impl Digits {
         }
     }
 
-    /// Keeps the digits of this number but for its last two, which are others than those that are kept.
+    /// Keeps the digits of this number but for its last two, which are others than those that are kept. Kept out of
+    /// line: this is seldom, and in line it would be in each place where a line is put.
+    #[inline(never)]
     fn keep_anew(&mut self, number: u64)
         ensures hundreds { hundreds_of self.new ≡ number / 100 }
         ensures place { self.new.place ≡ self.old.place }
