@@ -13,21 +13,16 @@ ghost use Rattle.stp_codec.specs.declared.flat.PacketParts.{PacketParts};
 
 use crate::decoder::{MANY, StpDecoder};
 use crate::flat::{PacketParts, WINDOW, parts_from_first};
-use stp_grammar::packet::Order;
 use trace_values::Found;
 
 impl StpDecoder {
-    /// A packet that begins or has begun can be read as numbers: most significant nibbles come first, at most one of
-    /// its nibbles is read, and the reading has begun. It is live.
+    /// A packet that begins or has begun can be read as numbers. It is live.
     #[inline(always)]
     fn is_ready(&self) -> bool
         requires { is_live self.now ≡ true }
         ensures { result ≡ true → IsReady self.now }
     {
-        match self.order {
-            Order::Msn => self.first < MANY && self.mode.is_locked(),
-            _ => false,
-        }
+        self.first < MANY
     }
 
     /// Copies bytes behind those that wait.
