@@ -49,4 +49,4 @@ zeros_kept d taken kept = by (reaches d.waiting 0) where
 
   by : (d.waiting ≤ 0) ⊎ (0 < d.waiting) → walk rule Header (replicate taken 0) ≡ Within (partial_of d)
   by (inl h) = (let none : d.waiting ≡ 0 = omega arith in zeros_of taken some ∙ ap Within (sym (settled d none ∙ kept)))
-  by (inr h) = (let e = sym kept ∙ d.begins h in cc)
+  by (inr h) = (let e = sym kept ∙ d.begins (d.waits h) in cc)

@@ -93,5 +93,5 @@ count_is d = count_of_bytes d.waiting d.held
 pub waiting_is : (d : ItmDecoder) → 0 < d.waiting → d.waiting ≡ held_of d
 waiting_is d h =
     let n = counted_bytes d.partial (partial_of d) (waiting_in d) d.within in
-    let none : count_of d.partial ≡ 0 = ap count_of (d.begins h) in
+    let none : count_of d.partial ≡ 0 = ap count_of (d.begins (d.waits h)) in
     omega (arith, n, none, count_is d)

@@ -43,6 +43,8 @@ pub struct ItmDecoder {
     mode: Mode,
     partial: Partial,
     live: bool,
+    /// The reading has begun, and the bytes that wait are all of the unfinished packet: so its end can be looked for.
+    at_header: bool,
     /// How many bytes wait, and the number that they are, the first the least significant.
     waiting: usize,
     held: u64,
@@ -50,8 +52,9 @@ pub struct ItmDecoder {
     ghost counted: { is_counted pattern mode ≡ true },
     ghost few: { waiting ≤ 7 },
     ghost fits: { held < 256 ^ waiting },
-    ghost begins: { 0 < waiting → partial ≡ Header },
-    ghost locked: { 0 < waiting → is_locked mode ≡ true },
+    ghost begins: { at_header ≡ true → partial ≡ Header },
+    ghost locked: { at_header ≡ true → is_locked mode ≡ true },
+    ghost waits: { 0 < waiting → at_header ≡ true },
     ghost within: { walk rule partial (bytes_of waiting held) ≡ Within (reached partial (bytes_of waiting held)) },
 }
 
@@ -76,6 +79,7 @@ impl ItmDecoder {
             mode: Mode::Aligned,
             partial: Partial::Header,
             live: true,
+            at_header: true,
             waiting: 0,
             held: 0,
         }
@@ -92,6 +96,7 @@ impl ItmDecoder {
             mode: Mode::Hunting { run: 0, skipped: 0 },
             partial: Partial::Header,
             live: true,
+            at_header: false,
             waiting: 0,
             held: 0,
         }
@@ -150,11 +155,10 @@ impl ItmDecoder {
         requires ahead { count + AHEAD ≤ length ahead.now }
         ensures { Looked self.old self.new ahead.now count result }
     {
-        match self.partial {
-            Partial::Header if count > 0 && Mode::is_locked(self.mode) => {
-                self.find_next(ahead, count, is_piece)
-            }
-            _ => Found::Unknown,
+        if count > 0 && self.at_header {
+            self.find_next(ahead, count, is_piece)
+        } else {
+            Found::Unknown
         }
     }
 
@@ -163,8 +167,7 @@ impl ItmDecoder {
     fn find_next(&mut self, ahead: &[u8], count: usize, is_piece: bool) -> Found<ItmEnd>
         requires some { 0 < count }
         requires ahead { count + AHEAD ≤ length ahead.now }
-        requires header { self.old.partial ≡ Header }
-        requires locked { has_locked self.old ≡ true }
+        requires header { self.old.at_header ≡ true }
         ensures { Looked self.old self.new ahead.now count result }
     {
         let next = next_in(ahead);
@@ -192,8 +195,7 @@ impl ItmDecoder {
         requires some { 0 < count }
         requires ahead { AHEAD ≤ length _ahead.now }
         requires next { next.now ≡ take AHEAD _ahead.now }
-        requires header { self.old.partial ≡ Header }
-        requires locked { has_locked self.old ≡ true }
+        requires header { self.old.at_header ≡ true }
         requires fresh { self.old.waiting ≡ 0 }
         ensures { Looked self.old self.new _ahead.now count result }
     {
@@ -213,8 +215,7 @@ impl ItmDecoder {
     fn wait(&mut self, word: u64, count: usize)
         requires few { count < 8 }
         requires front { IsFrontOf (to_le_bytes w64 word) count }
-        requires header { self.old.partial ≡ Header }
-        requires locked { has_locked self.old ≡ true }
+        requires header { self.old.at_header ≡ true }
         ensures part { partial_of self.new ≡ reached Header (take count (to_le_bytes w64 word)) }
         ensures same { (self.new.mode ≡ self.old.mode) × (self.new.live ≡ self.old.live) }
     {
@@ -370,13 +371,26 @@ impl ItmDecoder {
     /// Keeps this unfinished packet in place of the one that it kept, with no bytes that wait.
     #[inline(always)]
     fn keep(&mut self, partial: Partial)
-        requires { is_sound partial ≡ true }
+        requires locked { has_locked self.old ≡ true }
+        requires sound { is_sound partial ≡ true }
         ensures part { partial_of self.new ≡ partial }
         ensures same { (self.new.mode ≡ self.old.mode) × (self.new.live ≡ self.old.live) }
     {
         self.partial = partial;
+        self.at_header = is_header(partial);
         self.waiting = 0;
         self.held = 0;
+    }
+}
+
+/// No packet has begun.
+#[inline(always)]
+fn is_header(partial: Partial) -> bool
+    ensures { result ≡ true → partial ≡ Header }
+{
+    match partial {
+        Partial::Header => true,
+        Partial::Zeros(_) | Partial::Payload { .. } => false,
     }
 }
 
@@ -479,6 +493,7 @@ impl Machine for ItmDecoder {
             if SYNC.ends(run, byte) {
                 let before = skipped - SYNC.most as u64;
                 self.mode = Mode::Locked { skipped: before };
+                self.at_header = is_header(self.partial);
                 Step::Locked {
                     skipped: before,
                     half: 0,
@@ -496,6 +511,7 @@ impl Machine for ItmDecoder {
             self.waiting = 0;
             self.held = 0;
             self.partial = unfinished;
+            self.at_header = false;
             match unfinished.with_byte(byte) {
                 Next::Go(partial) => {
                     self.partial = partial;
@@ -503,6 +519,7 @@ impl Machine for ItmDecoder {
                 }
                 Next::End(packet) => {
                     self.partial = Partial::Header;
+                    self.at_header = true;
                     Step::Item {
                         half: 0,
                         item: packet,

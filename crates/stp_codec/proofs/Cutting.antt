@@ -1,20 +1,19 @@
 -- A part of a packet, as many nibbles as there are.
-use Rattle.std.proofs.Common.{◌≡◌, ℕ, zero, suc, ◌+◌, ◌-◌, ◌*◌, ◌^◌, ◌<◌, ◌≤◌, List, [], ◌∷◌, ◌++◌, length, get_or, refl, sym, ◌∙◌}
+use Rattle.std.proofs.Common.{◌≡◌, ℕ, ◌+◌, ◌-◌, ◌*◌, ◌<◌, ◌≤◌, List, [], ◌∷◌, ◌++◌, length, get_or, refl, sym, ◌∙◌}
 use Rattle.std.proofs.Common.{ap, subst, arith, Bool, true, false}
 use Rattle.std.specs.Prelude.{◌==◌, nat_lt, nat_le}
 use Rattle.std.proofs.lemmas.Bool.Decides.{nat_tests}
-use Rattle.std.proofs.Math.Nat.{pow-suc}
 use Rattle.std.proofs.lemmas.List.{append-nil, take_all}
 use Rattle.stp_codec.specs.Names.{Next, Go, End, Whole, Within, after, walk, nibble_count, Order, Row, StpPacket, Async}
 use Rattle.stp_codec.specs.Names.{Plain, Stamped, Partial, Start, Second, Third, Run, Payload, Size, Word, line_of}
-use Rattle.stp_codec.specs.Names.{Lsn, number, row_at, rule, after_payload, begin, opened, third_opening}
+use Rattle.stp_codec.specs.Names.{number, row_at, rule, after_payload, begin, opened, third_opening}
 use Rattle.trace_values.proofs.Walks.{walk_more}
 use Rattle.stp_grammar.specs.Opcodes.{Whole as Opened}
 use Rattle.stp_grammar.proofs.Digits.{stage_whole, stage_within, value_from}
 use Rattle.stp_codec.specs.Wholes.{nibbles_in, between, number_from}
 use Rattle.stp_codec.specs.Cuts.{Leads, payload_from}
-use Rattle.stp_codec.proofs.AtOnce.{nibbles_fit}
 use Rattle.stp_codec.proofs.Between.{length-nibbles, length-between, between_first, between_none, between_parts}
+use Rattle.stp_codec.proofs.Between.{low_nibble, high_nibble}
 use Rattle.stp_codec.proofs.Finishing.{value_is, ends_word, first_is}
 
 -- the state after a payload's nibbles
@@ -117,29 +116,31 @@ module _ (order : Order) (s : Partial) (xs : List ℕ) where
         more_leads (Word row payload size_ n v) start (start + more) (End (Stamped row payload size_ word)) (omega arith) there k
         (ends_word order row payload size_ n v part h (omega (arith, e, size)) ∙ ap (λ w. Whole (Stamped row payload size_ w)) (sym is))
 
--- nibbles F, by the number that they make
-pub run_leads : (order : Order) (s : Partial) (bytes : List ℕ) (n start count : ℕ) → start + n ≤ 2 * length bytes →
-    number Lsn (between (nibbles_in bytes) start (start + n)) + 1 ≡ 16 ^ n →
-    Leads order s (between (nibbles_in bytes) 0 start) (Go (Run count)) → Leads order s (between (nibbles_in bytes) 0 (start + n)) (Go (Run (count + n)))
-run_leads order s bytes zero start count h e k =
-    subst (λ (i : ℕ). Leads order s (between (nibbles_in bytes) 0 i) (Go (Run (count + 0)))) (let q : start ≡ start + 0 = omega arith in q)
-    (subst (λ (i : ℕ). Leads order s (between (nibbles_in bytes) 0 start) (Go (Run i))) (let q : count ≡ count + 0 = omega arith in q) k)
-run_leads order s bytes (suc n) start count h e k =
-    let xs = nibbles_in bytes in
-    let l = length-nibbles bytes in
-    let b = get_or xs start 0 in
-    let rest = number Lsn (between xs (start + 1) (start + suc n)) in
-    let first = between_first xs start (start + suc n) (omega arith) (omega (arith, l, h)) in
-    let made : b + 16 * rest + 1 ≡ 16 ^ suc n = ap (λ r. number Lsn r + 1) (sym first) ∙ e in
-    let small : b < 16 = subst (λ (r : List ℕ). get_or r 0 0 < 16) first (nibbles_fit bytes start (start + suc n) 0) in
-    let power = pow-suc 16 n in
-    let f : 15 ≡ b = omega (arith, made, small, power) in
-    let others : rest + 1 ≡ 16 ^ n = omega (arith, made, small, power) in
-    let end : start + 1 + n ≡ start + suc n = omega arith in
-    subst (λ (i : ℕ). Leads order s (between xs 0 (start + suc n)) (Go (Run i))) (let q : count + 1 + n ≡ count + suc n = omega arith in q)
-    (subst (λ (i : ℕ). Leads order s (between xs 0 i) (Go (Run (count + 1 + n)))) end
-    (run_leads order s bytes n (start + 1) (count + 1) (omega (arith, h)) (ap (λ (i : ℕ). number Lsn (between xs (start + 1) i) + 1) end ∙ others)
-    (nibble_leads order s xs (Run count) start 15 (Go (Run (count + 1))) (omega (arith, l, h)) f refl k)))
+-- nibbles F
+module _ (order : Order) (s : Partial) (bytes : List ℕ) where
+  -- none, from the same nibble on
+  pub run_same : (start end count more : ℕ) → start ≡ end → count ≡ more →
+      Leads order s (between (nibbles_in bytes) 0 start) (Go (Run count)) → Leads order s (between (nibbles_in bytes) 0 end) (Go (Run more))
+  run_same start end count more e f k =
+      subst (λ (i : ℕ). Leads order s (between (nibbles_in bytes) 0 i) (Go (Run more))) e
+      (subst (λ (i : ℕ). Leads order s (between (nibbles_in bytes) 0 start) (Go (Run i))) f k)
+
+  -- one
+  pub run_nibble : (start count : ℕ) → start < 2 * length bytes → 15 ≡ get_or (nibbles_in bytes) start 0 →
+      Leads order s (between (nibbles_in bytes) 0 start) (Go (Run count)) → Leads order s (between (nibbles_in bytes) 0 (start + 1)) (Go (Run (count + 1)))
+  run_nibble start count h f k =
+      let l = length-nibbles bytes in
+      nibble_leads order s (nibbles_in bytes) (Run count) start 15 (Go (Run (count + 1))) (omega (arith, l, h)) f refl k
+
+  -- those of a byte
+  pub run_byte : (index count : ℕ) → index < length bytes → get_or bytes index 0 ≡ 255 →
+      Leads order s (between (nibbles_in bytes) 0 (2 * index)) (Go (Run count)) → Leads order s (between (nibbles_in bytes) 0 (2 * (index + 1))) (Go (Run (count + 2)))
+  run_byte index count h e k =
+      let low = low_nibble bytes index h in
+      let high = high_nibble bytes index h in
+      run_same (2 * index + 1 + 1) (2 * (index + 1)) (count + 1 + 1) (count + 2) (omega arith) (omega arith)
+      (run_nibble (2 * index + 1) (count + 1) (omega arith) (omega (arith, high, e))
+      (run_nibble (2 * index) count (omega arith) (omega (arith, low, e)) k))
 
 -- all nibbles
 pub all_leads : (order : Order) (s : Partial) (bytes : List ℕ) (end : ℕ) (next : Next Partial StpPacket) → 2 * length bytes ≤ end →

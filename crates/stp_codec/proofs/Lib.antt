@@ -12,6 +12,7 @@ pub mod Finishing
 pub mod ByBytes
 pub mod Cutting
 pub mod Passing
+pub mod Leaving
 pub mod PacketPieces
 pub mod PartPieces
 pub mod PartsPieces

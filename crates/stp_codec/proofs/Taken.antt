@@ -30,7 +30,7 @@ use Rattle.stp_codec.proofs.Unread.{nibbles_append, reached_on, fronts_on, reach
 use Rattle.stp_codec.proofs.Unread.{ends_behind}
 
 -- the same in all parts
-stands_as : (d e : StpDecoder) (s t : Partial) → e.order ≡ d.order → e.mode ≡ d.mode → e.live ≡ d.live → e.attribution ≡ d.attribution → t ≡ s →
+pub stands_as : (d e : StpDecoder) (s t : Partial) → e.order ≡ d.order → e.mode ≡ d.mode → e.live ≡ d.live → e.attribution ≡ d.attribution → t ≡ s →
     (n : List Placed) → StandsWith d s n → StandsWith e t n
 stands_as d e s t order mode live attribution same n h =
     subst (λ (x : Order). At x e.mode e.live t e.attribution n) (sym order)
@@ -69,15 +69,13 @@ begun_again order first partial t e = by (nat_lt first 16) e where
   by false f = refl
 
 -- what is left of a byte: its high nibble, or nothing
-pub begun_left : (order : Order) (half byte : ℕ) (partial : Partial) → byte < 256 → half ≤ 1 → (P : ℕ → Partial → Type 0) →
-    P 0 (left_by order (byte / 16)) → P 1 Start → P half (begun order (byte / 16 * (1 - half)) partial)
-begun_left order zero byte partial small h P a b =
-    subst (P 0) (sym (begun_first order (byte / 16 * (1 - 0)) partial (omega arith)
-    ∙ ap (left_by order) (let e : byte / 16 * (1 - 0) ≡ byte / 16 = omega arith in e))) a
-begun_left order (suc zero) byte partial small h P a b =
-    subst (P 1) (sym (begun_first order (byte / 16 * (1 - 1)) partial (omega arith)
-    ∙ ap (left_by order) (let e : byte / 16 * (1 - 1) ≡ 0 = omega arith in e))) b
-begun_left order (suc (suc n)) byte partial small h P a b = absurd (omega arith)
+pub left_half : (order : Order) (half byte : ℕ) → byte < 256 → half ≤ 1 → (P : ℕ → Partial → Type 0) →
+    P 0 (left_by order (byte / 16)) → P 1 Start → P half (left_by order (byte / 16 * (1 - half)))
+left_half order zero byte small h P a b =
+    subst (P 0) (ap (left_by order) (let e : byte / 16 ≡ byte / 16 * (1 - 0) = omega arith in e)) a
+left_half order (suc zero) byte small h P a b =
+    subst (P 1) (ap (left_by order) (let e : 0 ≡ byte / 16 * (1 - 1) = omega arith in e)) b
+left_half order (suc (suc n)) byte small h P a b = absurd (omega arith)
 
 pub left_leaves : (order : Order) (b : ℕ) → b < 16 → Leaves (rule order Start b) (left_by order b)
 left_leaves order b h = by (rule order Start b) refl where
@@ -111,7 +109,7 @@ left_count order first = by (rule order Start first) refl where
   by (Fail r) e = omega arith
 
 pub read_few : (d : StpDecoder) → 0 < d.waiting → count_of (begun_of d) ≤ 1
-read_few d h = subst (λ (p : Partial). count_of p ≤ 1) (sym (begun_first d.order d.first d.partial (d.ready h).1)) (left_count d.order d.first)
+read_few d h = subst (λ (p : Partial). count_of p ≤ 1) (sym (begun_first d.order d.first d.partial (d.waits h))) (left_count d.order d.first)
 
 -- bytes that were read
 module _ (d e : StpDecoder) (s : Settles d e) where
@@ -193,8 +191,8 @@ pub copies_finds : (d e f : StpDecoder) (ahead : List ℕ) (count : ℕ) (found 
 copies_finds d e f ahead count found c h = idle_finds d e f (copies_same d e ahead c) (copies_idle d e ahead c) ahead count found h
 
 -- a packet was found, and nothing was taken
-pub finds_packet : (d : StpDecoder) (ahead : List ℕ) (count : ℕ) (x : PacketParts) → x.number < 35 → x.nibbles ≤ 2 * count → Finishes d ahead x.nibbles (packet_of x) → Finds d d ahead count (EndsIn x)
-finds_packet d ahead count x number within p = (p.some, within, record { number = number; packet = p }, (λ u h. h, refl, refl))
+pub finds_packet : (d : StpDecoder) (ahead : List ℕ) (count : ℕ) (x : PacketParts) → x.number < 35 → x.nibbles ≤ 2 * count → IsReady d → Finishes d ahead x.nibbles (packet_of x) → Finds d d ahead count (EndsIn x)
+finds_packet d ahead count x number within r p = (p.some, within, record { order = r.order; number = number; packet = p }, (λ u h. h, refl, refl))
 
 pub same_order : (d e : StpDecoder) → (order_of e ≡ order_of d) × (is_hunter e ≡ is_hunter d) → (P : Order → Bool → Type 0) → P (order_of e) (is_hunter e) → P (order_of d) (is_hunter d)
 same_order d e same P h = subst (λ (o : Order). P o (is_hunter d)) same.0 (subst (λ (b : Bool). P (order_of e) b) same.1 h)

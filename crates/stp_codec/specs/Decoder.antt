@@ -5,7 +5,7 @@ use Rattle.stp_codec.specs.Names.{is_locked, skipped_of, Order, Msn, StpPacket, 
 use Rattle.stp_codec.specs.Names.{IsProper, IsProperItem, rule, count_of, Passes, TakesNone, item_at}
 use Rattle.stp_grammar.specs.Attributed as attributed
 use Rattle.stp_codec.specs.Reading.{pattern, packets_of, items_in}
-use Rattle.stp_codec.specs.Wholes.{Ends, between, nibbles_in, reached, begun}
+use Rattle.stp_codec.specs.Wholes.{Ends, between, nibbles_in, reached, begun, left_by}
 use Rattle.stp_codec.specs.Parts.{packet_of}
 use Rattle.stp_codec.specs.declared.flat.PacketParts.{PacketParts}
 use Rattle.stp_codec.specs.declared.flat.TheConstants.{WINDOW}
@@ -103,15 +103,20 @@ pub record Finishes (decoder : StpDecoder) (bytes : List ℕ) (nibbles : ℕ) (p
   pub whole : Ends decoder.order (Go (partial_of decoder)) (between (nibbles_in bytes) 0 nibbles) packet
   pub proper : IsProper packet
 
--- the packet of these parts is so finished
+-- the packet of these parts is so finished, of which most significant nibbles come first
 pub record FinishesParts (decoder : StpDecoder) (bytes : List ℕ) (parts : PacketParts) : Type 0 where
+  pub order : decoder.order ≡ Msn
   pub number : parts.number < 35
   pub packet : Finishes decoder bytes parts.nibbles (packet_of parts)
 
--- It is live, its reading has begun, no bytes wait, and a packet begins.
-abbrev pub IsFresh : StpDecoder → Type 0
-IsFresh decoder =
-    (is_live decoder ≡ true) × (has_locked decoder ≡ true) × (decoder.waiting ≡ 0) × (decoder.first ≡ 0)
+-- No bytes wait, and this is the one nibble of the unfinished packet, or it is 0 and there is none.
+pub record Begins (old new : StpDecoder) (nibble : ℕ) : Type 0 where
+  pub order : new.order ≡ old.order
+  pub mode : new.mode ≡ old.mode
+  pub live : new.live ≡ old.live
+  pub attribution : new.attribution ≡ old.attribution
+  pub waiting : new.waiting ≡ 0
+  pub begun : begun_of new ≡ left_by old.order nibble
 
 -- It has read the bytes that waited.
 pub record Settles (old new : StpDecoder) : Type 0 where

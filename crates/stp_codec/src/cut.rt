@@ -8,7 +8,7 @@ ghost use Rattle.stp_codec.specs.Names.{begin, COUNT_ROOM};
 ghost use Rattle.stp_codec.specs.Cuts.{CutsFrom, CutsInto, IsProperCut, Leads, payload_from};
 ghost use Rattle.stp_codec.specs.Wholes.{between, nibbles_in};
 
-use crate::numbers::{nibble_of, nibbles_from, number_from};
+use crate::numbers::{nibble_of, number_from};
 use stp_grammar::opcode::{Head, opcode_of, payload_at, row_at, stamped_at};
 use stp_grammar::packet::{Order, Row, StpPacket};
 use stp_grammar::partial::Partial;
@@ -168,18 +168,36 @@ fn cut_opcode(order: Order, number: u8, bytes: &[u8], start: usize) -> Option<Cu
     )
 }
 
-/// How many nibbles F are seen at once from this nibble on: 16, as behind the first two of an ASYNC, or none.
+/// How many of the bytes from this one on are FF, up to the first that is not.
 #[inline(always)]
-fn run_at_once(bytes: &[u8], start: usize) -> usize
+fn full_bytes(bytes: &[u8], first: usize) -> usize
+    requires there { first ≤ length bytes.now }
+    ensures there { first + result ≤ length bytes.now }
+    ensures leads { (order : Order) (s : Partial) (count : ℕ) →
+        Leads order s (between (nibbles_in bytes.now) 0 (2 * first)) (Go (Run count)) →
+        Leads order s (between (nibbles_in bytes.now) 0 (2 * first + 2 * result)) (Go (Run (count + 2 * result))) }
+{
+    for index in first..bytes.len() {
+        if bytes[index] != 0xFF {
+            return index - first;
+        }
+    }
+    bytes.len() - first
+}
+
+/// How many nibbles F are from this one on in bytes FF, and before those in the half of a byte in which they begin.
+#[inline(always)]
+fn full_run(bytes: &[u8], start: usize) -> usize
     requires there { start ≤ 2 * length bytes.now }
-    ensures few { result ≤ 16 }
     ensures there { start + result ≤ 2 * length bytes.now }
     ensures leads { (order : Order) (s : Partial) (count : ℕ) →
         Leads order s (between (nibbles_in bytes.now) 0 start) (Go (Run count)) →
         Leads order s (between (nibbles_in bytes.now) 0 (start + result)) (Go (Run (count + result))) }
 {
-    if start / 2 + 9 <= bytes.len() && nibbles_from(bytes, start) == u64::MAX {
-        16
+    if start % 2 == 0 {
+        2 * full_bytes(bytes, start / 2)
+    } else if nibble_of(bytes, start) == 15 {
+        1 + 2 * full_bytes(bytes, start / 2 + 1)
     } else {
         0
     }
@@ -194,7 +212,7 @@ fn cut_run(before: u64, bytes: &[u8], start: usize) -> Option<Cut>
     ensures cuts { (order : Order) → CutsFrom order bytes.now start (Go (Run before)) result }
     ensures proper { IfSome result IsProperCut }
 {
-    let seen = run_at_once(bytes, start);
+    let seen = full_run(bytes, start);
     let mut count = before + seen as u64;
     for index in start + seen..2 * bytes.len() {
         match nibble_of(bytes, index) {

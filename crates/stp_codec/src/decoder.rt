@@ -31,9 +31,10 @@ const ROOM: usize = 64;
 pub struct StpDecoder {
     pub(crate) order: Order,
     pub(crate) mode: Mode,
-    /// The unfinished packet without the bytes that wait, where it has more than one nibble; else of no account.
+    /// The unfinished packet where `first` is `MANY`; else of no account.
     pub(crate) partial: Partial,
-    /// The first nibble of the unfinished packet where that has no more, 0 where there is none, and else `MANY`.
+    /// Where the unfinished packet without the bytes that wait can be read as numbers, its one nibble, or 0 where it has
+    /// none; else `MANY`. It can where the reading has begun and most significant nibbles come first.
     pub(crate) first: u8,
     pub(crate) live: bool,
     pub(crate) attribution: Attribution,
@@ -45,7 +46,8 @@ pub struct StpDecoder {
     ghost counted: { is_counted pattern mode ≡ true },
     ghost size: { length held ≡ ROOM },
     ghost few: { waiting ≤ WINDOW },
-    ghost ready: { 0 < waiting → (order ≡ Msn) × (first < 16) × (is_locked mode ≡ true) },
+    ghost ready: { first < 16 → (order ≡ Msn) × (is_locked mode ≡ true) },
+    ghost waits: { 0 < waiting → first < 16 },
     ghost fronts: { 0 < waiting →
         Fronts order (begun order first partial) (nibbles_in (take waiting held)) },
 }
@@ -85,10 +87,22 @@ fn after_first(nibble: u8) -> Partial
     }
 }
 
+/// What stands for a packet's first nibble in a reading, in this order, where none came.
+#[inline(always)]
+pub(crate) fn first_of_none(order: Order) -> u8
+    ensures none { begun order result Start ≡ Start }
+    ensures ready { result < 16 → order ≡ Msn }
+{
+    match order {
+        Order::Msn => 0,
+        Order::Lsn => MANY,
+    }
+}
+
 impl StpDecoder {
     ghost use Rattle.std.specs.Prelude.{[], false};
-    ghost use Rattle.stp_codec.specs.Decoder.{Stands, Settles, begun_of, held_of, is_hunter, is_live, order_of};
-    ghost use Rattle.stp_codec.specs.Decoder.{skipped_by};
+    ghost use Rattle.stp_codec.specs.Decoder.{Begins, Stands, Settles, begun_of, has_locked, held_of, is_hunter};
+    ghost use Rattle.stp_codec.specs.Decoder.{is_live, order_of, skipped_by};
 
     /// A decoder of bytes that begin with a packet, whose numbers have their nibbles in this order.
     pub fn aligned(order: Order) -> StpDecoder
@@ -102,7 +116,7 @@ impl StpDecoder {
             order,
             mode: Mode::Aligned,
             partial: Partial::Start,
-            first: 0,
+            first: first_of_none(order),
             live: true,
             attribution: Attribution::new(),
             held: [0; ROOM],
@@ -122,7 +136,7 @@ impl StpDecoder {
             order,
             mode: Mode::Hunting { run: 0, skipped: 0 },
             partial: Partial::Start,
-            first: 0,
+            first: MANY,
             live: true,
             attribution: Attribution::new(),
             held: [0; ROOM],
@@ -140,6 +154,35 @@ impl StpDecoder {
             after_first(self.first)
         } else {
             self.partial
+        }
+    }
+
+    /// Lets a packet begin with this nibble, 0 where none came, in a reading of most significant nibbles first.
+    #[inline(always)]
+    pub(crate) fn begin_ready(&mut self, nibble: u8)
+        requires locked { has_locked self.old ≡ true }
+        requires order { order_of self.old ≡ Msn }
+        requires nibble { nibble < 16 }
+        ensures { Begins self.old self.new nibble }
+    {
+        self.first = nibble;
+        self.waiting = 0;
+    }
+
+    /// Lets a packet begin with this nibble, 0 where none came, in a reading.
+    #[inline(always)]
+    pub(crate) fn begin(&mut self, nibble: u8)
+        requires locked { has_locked self.old ≡ true }
+        requires nibble { nibble < 16 }
+        ensures { Begins self.old self.new nibble }
+    {
+        match self.order {
+            Order::Msn => self.begin_ready(nibble),
+            Order::Lsn => {
+                self.partial = after_first(nibble);
+                self.first = MANY;
+                self.waiting = 0;
+            }
         }
     }
 

@@ -13,31 +13,38 @@ ghost use Rattle.stp_codec.specs.declared.flat.PacketParts.{PacketParts};
 
 use crate::decoder::{MANY, StpDecoder};
 use crate::flat::{PacketParts, WINDOW, parts_from_first};
-use stp_grammar::packet::Order;
 use trace_values::Found;
 
+/// The first of these bytes, as many as the decoder copies. How many they are is known where the code is built, so that
+/// nothing is tested.
+#[inline(always)]
+fn window_in(ahead: &[u8]) -> &[u8; WINDOW]
+    requires { WINDOW ≤ length ahead.now }
+    ensures { result.now ≡ take WINDOW ahead.now }
+{
+    ahead[..WINDOW].first_chunk::<WINDOW>().unwrap()
+}
+
 impl StpDecoder {
-    /// A packet that begins or has begun can be read as numbers: most significant nibbles come first, at most one of
-    /// its nibbles is read, and the reading has begun. It is live.
+    /// A packet that begins or has begun can be read as numbers. It is live.
     #[inline(always)]
     fn is_ready(&self) -> bool
         requires { is_live self.now ≡ true }
         ensures { result ≡ true → IsReady self.now }
     {
-        match self.order {
-            Order::Msn => self.first < MANY && self.mode.is_locked(),
-            _ => false,
-        }
+        self.first < MANY
     }
 
-    /// Copies bytes behind those that wait.
+    /// Copies bytes behind those that wait. They come from a copy, which is nowhere in the decoder: so no test whether
+    /// it is goes before them.
     #[inline(always)]
     fn hold(&mut self, ahead: &[u8])
         requires ahead { WINDOW ≤ length ahead.now }
         ensures { Copies self.old self.new ahead.now }
     {
         let from = self.waiting;
-        self.held[from..from + WINDOW].copy_from_slice(&ahead[..WINDOW]);
+        let window = *window_in(ahead);
+        self.held[from..from + WINDOW].copy_from_slice(&window);
     }
 
     /// Lets the first `count` of these bytes wait. They are behind those that wait already, and within the packet.

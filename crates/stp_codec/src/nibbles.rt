@@ -10,7 +10,7 @@ ghost use Rattle.stp_codec.specs.Decoder.{order_of, read_of, skipped_by};
 ghost use Rattle.stp_codec.specs.Nibbles.{ReadsByte, TakesNibble, TakesNibbles, nibbles_after};
 ghost use Rattle.stp_codec.specs.Reading.{items_at};
 
-use crate::decoder::{MANY, StpDecoder};
+use crate::decoder::{MANY, StpDecoder, first_of_none};
 use stp_grammar::item::StpItem;
 use stp_grammar::packet::Order;
 use stp_grammar::partial::Partial;
@@ -37,7 +37,7 @@ impl StpDecoder {
             let before = skipped - ASYNC.most as u64;
             self.mode = Mode::Locked { skipped: before };
             self.partial = Partial::Start;
-            self.first = 0;
+            self.first = first_of_none(self.order);
             Step::Locked {
                 skipped: before,
                 half,
@@ -70,7 +70,7 @@ impl StpDecoder {
             }
             Next::End(packet) => {
                 self.partial = Partial::Start;
-                self.first = 0;
+                self.first = first_of_none(self.order);
                 match self.attribution.take(packet) {
                     Some(item) => Step::Item { half, item },
                     None => Step::Quiet,

@@ -2,12 +2,11 @@
 
 ghost use Rattle.std.specs.Prelude.{◌≡◌, ◌<◌, ◌≤◌, true, length, take, [], ◌∷◌, ◌++◌, ℕ, ◌+◌, ◌-◌, ◌*◌, ◌/◌, List};
 ghost use Rattle.std.specs.Prelude.{IfSome, None};
-ghost use Rattle.stp_codec.specs.Wholes.{left_of, IsQuiet};
 ghost use Rattle.stp_codec.specs.Names.{COUNT_ROOM, Placed, units_of, said_item, IsProperSaid, count_of};
 ghost use Rattle.stp_codec.specs.Names.{Passes, item_at};
-ghost use Rattle.stp_codec.specs.Reading.{items_at, items_in};
-ghost use Rattle.stp_codec.specs.Decoder.{Stands, order_of, is_hunter, is_live, begun_of, BegunAt};
-ghost use Rattle.stp_codec.specs.Decoder.{IsFresh, IsSettled, Idles, Stays, TakesPart, held_of, skipped_by, Finishes};
+ghost use Rattle.stp_codec.specs.Reading.{items_in};
+ghost use Rattle.stp_codec.specs.Decoder.{Stands, order_of, is_hunter, is_live};
+ghost use Rattle.stp_codec.specs.Decoder.{IsSettled, Idles, Stays, TakesPart, held_of, skipped_by, Finishes};
 ghost use Rattle.stp_codec.specs.Decoder.{FinishesParts};
 
 use crate::cut::{Cut, cut_packet};
@@ -17,24 +16,18 @@ use stp_grammar::item::StpItem;
 use stp_grammar::packet::StpPacket;
 use trace_values::TakenAtOnce;
 
-impl StpDecoder {
-    /// Takes what is left of a byte in whose half a packet ended: the high nibble, where it ended in the low one.
-    #[inline(always)]
-    fn pass_left(&mut self, half: u8, byte: u8)
-        requires fresh { IsFresh self.old }
-        requires half { half ≤ 1 }
-        ensures stays { Stays self.old self.new }
-        ensures settled { self.new.waiting ≡ 0 }
-        ensures list { (at : ℕ) (n : List Placed) → BegunAt self.old n →
-            BegunAt self.new (n ++ left_of half at byte) }
-        ensures quiet { (at : ℕ) (n : List Placed) → BegunAt self.old n →
-            IsQuiet (items_at (order_of self.old) (is_hunter self.old) n)
-            (items_at (order_of self.old) (is_hunter self.old) (n ++ left_of half at byte)) }
-        ensures few { (count_of (begun_of self.new) ≤ 1) × (skipped_by self.new ≡ skipped_by self.old) }
-    {
-        self.first = byte / 16 * (1 - half);
-    }
+/// The nibble that is left of a byte in whose half a packet ended: the high one, where it ended in the low one, and
+/// else 0.
+#[inline(always)]
+fn left_in(half: u8, byte: u8) -> u8
+    requires { half ≤ 1 }
+    ensures value { result ≡ byte / 16 * (1 - half) }
+    ensures nibble { result < 16 }
+{
+    byte / 16 * (1 - half)
+}
 
+impl StpDecoder {
     /// Takes the packet that these bytes finish with so many of their nibbles, wherever they are, and what is left of
     /// the byte in which it ends. It is live.
     #[inline(always)]
@@ -51,10 +44,8 @@ impl StpDecoder {
     {
         let last = (nibbles - 1) / 2;
         let half = ((nibbles - 1) % 2) as u8;
-        self.first = 0;
-        self.waiting = 0;
         let item = self.attribution.take(packet);
-        self.pass_left(half, bytes[last]);
+        self.begin(left_in(half, bytes[last]));
         TakenAtOnce {
             bytes: last + 1,
             half,
@@ -127,12 +118,10 @@ impl StpDecoder {
     {
         let last = (parts.nibbles - 1) / 2;
         let half = ((parts.nibbles - 1) % 2) as u8;
-        self.first = 0;
-        self.waiting = 0;
         let said = self
             .attribution
             .say(parts.number, parts.payload, parts.size, parts.word);
-        self.pass_left(half, ahead[last]);
+        self.begin_ready(left_in(half, ahead[last]));
         SaidTaken {
             bytes: last + 1,
             half,

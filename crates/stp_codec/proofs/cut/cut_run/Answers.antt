@@ -23,7 +23,7 @@ loop-index-init c =
     record {
       some = omega (arith, some);
       count = omega arith;
-      leads = λ order s k. c.run_at_once-seen.ensures.leads order s c.args.before k;
+      leads = λ order s k. c.full_run-seen.ensures.leads order s c.args.before k;
     }
 
 pub loop-index-preserved : goal.loop-index-preserved

@@ -18,8 +18,8 @@ returns-in-Ends c =
     let end = c.in-Ends.end in
     subst (λ (n : ℕ). Looked d d c.args._ahead.now c.args.count (Ends (record { bytes = n; packet = end.packet })))
     (let e : end.bytes - d.waiting ≡ end.bytes = omega (arith, c.requires.fresh) in e)
-    (found_end d c.args.next.now c.args._ahead.now c.requires.header (c.requires.next ∙ fresh_is d c.args._ahead.now c.requires.fresh)
-    c.requires.ahead c.requires.locked c.args.count end
+    (found_end d c.args.next.now c.args._ahead.now (c.args.self.now.begins c.requires.header) (c.requires.next ∙ fresh_is d c.args._ahead.now c.requires.fresh)
+    c.requires.ahead (c.args.self.now.locked c.requires.header) c.args.count end
     (subst (λ (n : ℕ). IsSeen c.args.next.now n (Ends end)) (let e : c.args.count ≡ d.waiting + c.args.count = omega (arith, c.requires.fresh) in e)
     c.in-Ends.ensures)).1
 
@@ -27,8 +27,8 @@ pub returns-in-Waits : goal.returns-in-Waits
 returns-in-Waits c =
     let d = c.args.self.now in
     let sum : c.args.count ≡ d.waiting + c.args.count = omega (arith, c.requires.fresh) in
-    found_front d c.args.next.now c.args._ahead.now c.requires.header (c.requires.next ∙ fresh_is d c.args._ahead.now c.requires.fresh)
-    c.requires.ahead c.requires.locked c.args.count c.wait.new.self c.requires.some
+    found_front d c.args.next.now c.args._ahead.now (c.args.self.now.begins c.requires.header) (c.requires.next ∙ fresh_is d c.args._ahead.now c.requires.fresh)
+    c.requires.ahead (c.args.self.now.locked c.requires.header) c.args.count c.wait.new.self c.requires.some
     (subst (λ (n : ℕ). IsSeen c.args.next.now n Waits) sum c.in-Waits.ensures) c.wait.ensures.same
     (c.wait.ensures.part
     ∙ ap (λ (l : List ℕ). reached Header (take c.args.count l))

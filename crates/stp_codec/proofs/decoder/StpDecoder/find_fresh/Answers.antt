@@ -9,7 +9,7 @@ returns-then-parts-count-clause-found c =
     let d = c.args.self.now in
     let x = c.in-Some.parts in
     let e = c.in-Some.ensures in
-    finds_packet d c.args.ahead.now c.args.count x e.number c.if-parts-count.true
+    finds_packet d c.args.ahead.now c.args.count x e.number c.if-parts-count.true c.requires.ready
     (fresh_finishes d c.requires.ready c.requires.settled c.args.ahead.now x.nibbles (packet_of x) e.end.0 e.end.1 e.whole e.proper)
 
 pub wait-requires-clause-fronts : goal.wait-requires-clause-fronts

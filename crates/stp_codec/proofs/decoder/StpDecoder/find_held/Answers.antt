@@ -20,7 +20,7 @@ returns-then-parts-before-clause-found c =
     let e = c.in-Some.ensures in
     let t = c.if-parts-before.true in
     subst (λ (y : PacketParts). Finds d d c.args.ahead.now c.args.count (Ends y)) (sym c.after.ensures)
-    (finds_packet d c.args.ahead.now c.args.count (record x { nibbles = x.nibbles - 2 * d.waiting }) e.number (omega (arith, t))
+    (finds_packet d c.args.ahead.now c.args.count (record x { nibbles = x.nibbles - 2 * d.waiting }) e.number (omega (arith, t)) c.requires.ready
     (held_finishes d c.requires.ready c.args.ahead.now c.requires.held x.nibbles (packet_of x) (let n = e.end in omega (arith, n.1)) e.whole (omega (arith, t)) e.proper))
 
 pub wait-requires-clause-fronts : goal.wait-requires-clause-fronts

@@ -1,4 +1,4 @@
-use Rattle.std.proofs.Common.{refl, arith}
+use Rattle.std.proofs.Common.{refl, ◌∙◌, arith}
 use Rattle.stp_codec.proofs.Unread.{copied_front, copied}
 use Rattle.stp_codec.proofs.decoder.StpDecoder.hold.Goals as goal
 
@@ -16,5 +16,5 @@ returns c =
       first = refl;
       waiting = refl;
       bytes = copied_front d.held _ d.waiting (omega (arith, s, f));
-      behind = λ more h. copied d.held c.copy_from_slice.new.self _ c.args.ahead.now d.waiting more (omega (arith, s, f)) h c.requires.ahead c.copy_from_slice.ensures.after;
+      behind = λ more h. copied d.held c.copy_from_slice.new.self _ c.args.ahead.now d.waiting more (omega (arith, s, f)) h c.requires.ahead (c.copy_from_slice.ensures.after ∙ c.window_in.ensures);
     }

@@ -34,7 +34,7 @@ pub returns-then-ends : goal.returns-then-ends
 returns-then-ends c = λ at.
     let d = c.args.self.now in
     let ends = sym c.ends.ensures.value ∙ c.if-ends.true in
-    hunted c.args.run c.args.skipped c.requires.mode refl refl (c.requires.settled.0, refl) (omega arith) (omega arith)
+    hunted c.args.run c.args.skipped c.requires.mode refl refl (c.requires.settled.0, c.first_of_none-self.ensures.none) (omega arith) (omega arith)
     (λ n s. locks d.order d.mode d.live d.partial d.attribution n (nibble_at at c.args.half c.args.nibble) c.args.run c.args.skipped c.requires.mode ends s)
     (c.requires.live, refl, tt) (refl, refl) tt
 

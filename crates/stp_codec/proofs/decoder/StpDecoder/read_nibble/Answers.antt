@@ -47,7 +47,7 @@ pub returns-in-Some : goal.returns-in-Some
 returns-in-Some c =
     let d = c.args.self.now in
     let v = c.in-End.packet in
-    reads refl refl c.requires.locked (c.requires.settled.0, refl) (omega arith)
+    reads refl refl c.requires.locked (c.requires.settled.0, c.first_of_none-self.ensures.none) (omega arith)
     (λ n s. ends_answer d.order d.mode d.live d.partial d.attribution n (nibble_at c.args.at c.args.half c.args.nibble) c.requires.live c.requires.locked s v _ c.in-End.ensures.next c.in-Some.ensures.list (Some c.in-Some.item) c.in-Some.ensures.item)
     (c.requires.live, tt, c.in-Some.ensures.fits c.in-Some.item refl)
     (λ e. (let n = c.in-Some.ensures.silent (start_ends d.order v c.args.nibble (c.in-End.ensures.next ∙ ap (λ z. rule d.order z c.args.nibble) e)) in cc))
@@ -56,7 +56,7 @@ returns-in-Some c =
 pub returns-in-None : goal.returns-in-None
 returns-in-None c =
     let d = c.args.self.now in
-    reads refl refl c.requires.locked (c.requires.settled.0, refl) (omega arith)
+    reads refl refl c.requires.locked (c.requires.settled.0, c.first_of_none-self.ensures.none) (omega arith)
     (λ n s. ends_answer d.order d.mode d.live d.partial d.attribution n (nibble_at c.args.at c.args.half c.args.nibble) c.requires.live c.requires.locked s c.in-End.packet _ c.in-End.ensures.next c.in-None.ensures.list None c.in-None.ensures.item)
     (c.requires.live, tt, tt) (λ e. refl) tt tt
 
