@@ -5,7 +5,7 @@ use Rattle.std.proofs.lemmas.Bool.Decides.{nat_tests}
 use Rattle.std.proofs.lemmas.Bool.{cases_lt, true≢false}
 use Rattle.source_merge.specs.Names.{Cell, source_id, aux_bit, cells, names, frame_places, ends_from, ends_left, run_length}
 use Rattle.frame_runs.specs.Pairs.{end_at, is_end}
-use Rattle.source_merge.specs.Split.{AreInPlace, IsFirstRun, IsLeft, IsSplit, begun_after, begun_cells, cells_to, left_cells, split_cells, split_places}
+use Rattle.source_merge.specs.Split.{AreInPlace, IsFirstRun, IsLeft, IsSplit, begun_after, begun_cells, cells_to, left_cells, data_places, split_cells}
 use Rattle.source_merge.specs.declared.split.Begun.{Begun}
 use Rattle.source_merge.specs.declared.split.RunsLeft.{RunsLeft}
 use Rattle.source_merge.specs.declared.split.SplitFrame.{SplitFrame}
@@ -131,11 +131,11 @@ module _ (split : SplitFrame) where
   named = split.frame.now.bytes
 
   abbrev places : List ℕ
-  places = split_places split
+  places = data_places split.placed.now
 
   -- what is left is parts of the frame, one after the other
   pub record AreLeft (begun : Begun) (ends : List ℕ) : Type 0 where
-    pub cells : cells_to split begun ends ≡ cells_of_parts places split.bytes (parts_from named begun ends)
+    pub cells : cells_to split begun ends ≡ cells_of_parts places split.placed.now.bytes (parts_from named begun ends)
     pub are : AreParts begun.run 8 15 (parts_from named begun ends)
 
   -- the runs of parts rise from a lower number, too
@@ -150,18 +150,18 @@ module _ (split : SplitFrame) where
       let rest = parts_from named next ends in
       let near = end_near named k below in
       let most = near.1 in
-      let long = places_long split in
+      let long = places_long split.placed.now in
       ⊎_elim
       (λ less. record {
-        cells = ap (λ (l : List Cell). begun_cells places split.bytes begun end ++ l) more.cells
-            ∙ ap (cells_of_parts places split.bytes) (sym (some_before begun end rest less));
+        cells = ap (λ (l : List Cell). begun_cells places split.placed.now.bytes begun end ++ l) more.cells
+            ∙ ap (cells_of_parts places split.placed.now.bytes) (sym (some_before begun end rest less));
         are = subst (λ (l : List Part). AreParts begun.run 8 15 l) (sym (some_before begun end rest less))
             ((let e : begun.run ≤ begun.run = omega arith in e), less, most, more.are);
       })
       (λ none. record {
         cells = ap (λ (l : List Cell). l ++ cells_to split next ends)
-            (none_yet places split.bytes begun end none (omega (arith, most, long)))
-            ∙ more.cells ∙ ap (cells_of_parts places split.bytes) (sym (none_before begun end rest none));
+            (none_yet places split.placed.now.bytes begun end none (omega (arith, most, long)))
+            ∙ more.cells ∙ ap (cells_of_parts places split.placed.now.bytes) (sym (none_before begun end rest none));
         are = subst (λ (l : List Part). AreParts begun.run 8 15 l) (sym (none_before begun end rest none))
             (from_lower begun.run (begun.run + 1) rest (omega arith) more.are);
       })
@@ -181,7 +181,7 @@ module _ (split : SplitFrame) where
       cells_to split begun (ends_left split.ends) ≡ split_cells split
   all_left s begun source run from =
       (left_are (ends_left split.ends) 0 begun (omega arith) s.ends (omega (arith, run))).cells
-      ∙ (all_of named (frame_places split.frame.now) split.id places split.bytes (places_long split) split.sized s.placed
+      ∙ (all_of named (frame_places split.frame.now) split.id places split.placed.now.bytes (places_long split.placed.now) split.placed.now.sized s.placed
       begun (ends_left split.ends) source run from s.ends).cells
 
   -- the next end of a run
@@ -209,10 +209,10 @@ module _ (split : SplitFrame) where
           from = omega (arith, from, near);
         }
 
-    left_is : left_cells split left ≡ begun_cells places split.bytes left.begun (end_at named k) ++ left_cells split next
+    left_is : left_cells split left ≡ begun_cells places split.placed.now.bytes left.begun (end_at named k) ++ left_cells split next
     left_is =
         ap (cells_to split left.begun) some
-        ∙ ap (λ (b : Begun). begun_cells places split.bytes left.begun (end_at named k) ++ cells_to split b (ends_left next.ends))
+        ∙ ap (λ (b : Begun). begun_cells places split.placed.now.bytes left.begun (end_at named k) ++ cells_to split b (ends_left next.ends))
         (sym n)
 
     -- the run that ends there had no byte
@@ -220,13 +220,13 @@ module _ (split : SplitFrame) where
     none_here h =
         let below = pair_below left k (ends_left next.ends) i some in
         let most = (end_near named k below).1 in
-        let long = places_long split in
+        let long = places_long split.placed.now in
         left_is ∙ ap (λ (l : List Cell). l ++ left_cells split next)
-        (none_yet places split.bytes left.begun (end_at named k) h (omega (arith, most, long)))
+        (none_yet places split.placed.now.bytes left.begun (end_at named k) h (omega (arith, most, long)))
 
     -- or it is the first one
     pub first_here : left.begun.from < end_at named k →
-        IsFirstRun (left_cells split left) (begun_cells places split.bytes left.begun (end_at named k)) (left_cells split next)
+        IsFirstRun (left_cells split left) (begun_cells places split.placed.now.bytes left.begun (end_at named k)) (left_cells split next)
     first_here h =
         let j = next_left in
         let more = left_are (ends_left next.ends) j.pair next.begun j.last j.ends j.run in
@@ -234,11 +234,11 @@ module _ (split : SplitFrame) where
         let most = (end_near named k below).1 in
         let part = part_to left.begun (end_at named k) in
         let parts = parts_from named next.begun (ends_left next.ends) in
-        let own = begun_cells places split.bytes left.begun (end_at named k) in
+        let own = begun_cells places split.placed.now.bytes left.begun (end_at named k) in
         record {
           parts = left_is;
           size =
-              part_run places split.bytes (places_long split) split.sized left.begun.run 8 15 part parts (omega arith) (
+              part_run places split.placed.now.bytes (places_long split.placed.now) split.placed.now.sized left.begun.run 8 15 part parts (omega arith) (
                 (let e : left.begun.run ≤ left.begun.run = omega arith in e),
                 h,
                 most,

@@ -4,7 +4,7 @@ use Rattle.std.proofs.lemmas.List.{drop-take, get_or-drop, get_or-take}
 use Rattle.source_merge.specs.Names.{Cell, bytes_of}
 use Rattle.source_merge.specs.declared.split.SplitRun.{SplitRun}
 use Rattle.source_merge.specs.Routing.{IsRunOf}
-use Rattle.source_merge.specs.Split.{run_in, split_places}
+use Rattle.source_merge.specs.Split.{data_places, run_in}
 use Rattle.source_merge.proofs.DataCells.{cells_bytes, cells_cell, cells_id}
 use Rattle.source_merge.proofs.Parts.{part_length, part_places, part_sized}
 use Rattle.source_merge.proofs.Splitting.{part_to, places_long}
@@ -17,19 +17,19 @@ module _ (run : SplitRun) where
   end = run.end
 
   abbrev bytes : List ℕ
-  bytes = run.frame.now.bytes
+  bytes = run.placed.now.bytes
 
   abbrev places : List ℕ
-  places = split_places run.frame.now
+  places = data_places run.placed.now
 
   pub run_length : length (run_in run) ≡ end - from
-  run_length = part_length places bytes (places_long run.frame.now) run.frame.now.sized (part_to run.begun run.end) run.within
+  run_length = part_length places bytes (places_long run.placed.now) run.placed.now.sized (part_to run.begun run.end) run.within
 
   own_places : length (drop from (take end places)) ≡ end - from
-  own_places = part_places places bytes (places_long run.frame.now) run.frame.now.sized (part_to run.begun run.end) run.within
+  own_places = part_places places bytes (places_long run.placed.now) run.placed.now.sized (part_to run.begun run.end) run.within
 
   own_bytes : length (drop from (take end bytes)) ≡ end - from
-  own_bytes = part_sized places bytes (places_long run.frame.now) run.frame.now.sized (part_to run.begun run.end) run.within
+  own_bytes = part_sized places bytes (places_long run.placed.now) run.placed.now.sized (part_to run.begun run.end) run.within
 
   same : take (end - from) (drop from bytes) ≡ drop from (take end bytes)
   same =

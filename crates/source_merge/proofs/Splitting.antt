@@ -8,9 +8,9 @@ use Rattle.source_merge.specs.Names.{Cell, source_id, names, aux_bit, cells, run
 use Rattle.frame_grammar.specs.Frame.{even_data, cells_below, IsInForce}
 use Rattle.frame_grammar.proofs.Looks.{starts, passes, names_now, defers, names_next}
 use Rattle.frame_grammar.proofs.Pairs.{made, plain, named, more_cells, whole_plain, whole_named, even_plain}
-use Rattle.source_merge.specs.Split.{begun_cells, split_places, AreInPlace}
+use Rattle.source_merge.specs.Split.{begun_cells, data_places, AreInPlace}
 use Rattle.source_merge.specs.declared.split.Begun.{Begun}
-use Rattle.source_merge.specs.declared.split.SplitFrame.{SplitFrame}
+use Rattle.source_merge.specs.declared.split.PlacedData.{PlacedData}
 
 -- a run of a frame: its data from one index up to another
 pub record Part : Type 0 where
@@ -134,8 +134,8 @@ bit_or_none : (n : ℕ) → n < 2 → (n ≡ 0) ⊎ (n ≡ 1)
 bit_or_none n h = grind arith
 
 -- how many places a frame has
-pub places_long : (split : SplitFrame) → length (split_places split) ≡ 16
-places_long split = length-map split.behind (λ (b : ℕ). split.frame.now.at + b) ∙ split.places
+pub places_long : (placed : PlacedData) → length (data_places placed) ≡ 16
+places_long placed = length-map placed.behind (λ (b : ℕ). placed.at + b) ∙ placed.places
 
 -- what is in the place of a byte at an even index: of data it itself, of an ID byte that is late the byte behind it
 late_is : (frame : List ℕ) (k : ℕ) (named : Bool) → names frame k ≡ named → is_late frame k ≡ (nat_lt k 7 && named && aux_bit frame k == 1)

@@ -5,7 +5,9 @@ use Rattle.source_merge.specs.Names.{Cell, cells, places_of, run_cells, run_leng
 use Rattle.source_merge.specs.Names.{ends_from, ends_left, source_id}
 use Rattle.frame_runs.specs.Pairs.{end_at}
 use Rattle.source_merge.specs.declared.slot.Slot.{Slot}
+use Rattle.frame_grammar.specs.declared.gather.PlacedFrame.{PlacedFrame}
 use Rattle.source_merge.specs.declared.split.Begun.{Begun}
+use Rattle.source_merge.specs.declared.split.PlacedData.{PlacedData}
 use Rattle.source_merge.specs.declared.split.RunsLeft.{RunsLeft}
 use Rattle.source_merge.specs.declared.split.SplitFrame.{SplitFrame}
 use Rattle.source_merge.specs.declared.split.SplitRun.{SplitRun}
@@ -19,13 +21,13 @@ begun_cells offsets bytes begun end =
 abbrev pub split_cells : SplitFrame → List Cell
 split_cells split = cells split.frame.now.bytes (frame_places split.frame.now) split.id
 
--- where its data in their places are
-abbrev pub split_places : SplitFrame → List ℕ
-split_places split = places_of split.frame.now.at split.behind
+-- where the data of a frame are
+abbrev pub data_places : PlacedData → List ℕ
+data_places placed = places_of placed.at placed.behind
 
 -- the cells of one of its runs
 abbrev pub run_in : SplitRun → List Cell
-run_in run = begun_cells (split_places run.frame.now) run.frame.now.bytes run.begun run.end
+run_in run = begun_cells (data_places run.placed.now) run.placed.now.bytes run.begun run.end
 
 -- The data of a frame whose bytes are at these offsets are in their places.
 pub record AreInPlace (frame at bytes places : List ℕ) : Type 0 where
@@ -34,9 +36,13 @@ pub record AreInPlace (frame at bytes places : List ℕ) : Type 0 where
   pub even_places : (k : ℕ) → k < 8 → slice_index places (2 * k) ≡ place_in frame at k
   pub odd_places : (k : ℕ) → k < 8 → slice_index places (2 * k + 1) ≡ slice_index at (2 * k + 1)
 
+-- these are the data of this frame, in their places
+abbrev pub IsDataOf : PlacedFrame → PlacedData → Type 0
+IsDataOf frame placed = AreInPlace frame.bytes (frame_places frame) placed.bytes (data_places placed)
+
 -- A frame is taken apart: its data are in their places, and it is known where its runs end.
 pub record IsSplit (split : SplitFrame) : Type 0 where
-  pub placed : AreInPlace split.frame.now.bytes (frame_places split.frame.now) split.bytes (split_places split)
+  pub placed : IsDataOf split.frame.now split.placed.now
   pub ends : ends_left split.ends ≡ ends_from split.frame.now.bytes 0
   pub late : (k : ℕ) → k < 8 → 2 * k + split.late / 2 ^ k % 2 ≡ end_at split.frame.now.bytes k
 
@@ -53,7 +59,7 @@ begun_after frame begun k =
 abbrev pub cells_to : SplitFrame → Begun → List ℕ → List Cell
 cells_to split begun [] = []
 cells_to split begun (k ∷ ends) =
-    begun_cells (split_places split) split.bytes begun (end_at split.frame.now.bytes k)
+    begun_cells (data_places split.placed.now) split.placed.now.bytes begun (end_at split.frame.now.bytes k)
     ++ cells_to split (begun_after split.frame.now.bytes begun k) ends
 
 -- those of the runs that are left

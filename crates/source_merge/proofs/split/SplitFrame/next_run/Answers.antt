@@ -1,6 +1,6 @@
 use Rattle.std.proofs.Common.{◌≡◌, ◌+◌, ◌∙◌, ℕ, List, ap, arith, length, refl, subst, sym}
 use Rattle.source_merge.specs.Names.{Cell, ends_left}
-use Rattle.source_merge.specs.Split.{IsFirstRun, begun_after, begun_cells, cells_to, left_cells, split_places}
+use Rattle.source_merge.specs.Split.{IsFirstRun, begun_after, begun_cells, cells_to, data_places, left_cells}
 use Rattle.source_merge.specs.declared.split.RunsLeft.{RunsLeft}
 use Rattle.source_merge.proofs.Cuts.{first_here, next_left, none_here, pair_below, runs_below}
 use Rattle.source_merge.proofs.split.SplitFrame.next_run.Goals as goal
@@ -56,9 +56,9 @@ returns-then-begun-end c =
     record {
       left = next_left split c.loop-pair.left next k i.left c.in-Some.ensures.some after;
       none = λ q. cc;
-      first = subst (λ (l : List Cell). IsFirstRun l (begun_cells (split_places split) split.bytes begun c.end_of-end.result)
+      first = subst (λ (l : List Cell). IsFirstRun l (begun_cells (data_places split.placed.now) split.placed.now.bytes begun c.end_of-end.result)
           (left_cells split next)) i.same
-          (subst (λ (m : ℕ). IsFirstRun (left_cells split c.loop-pair.left) (begun_cells (split_places split) split.bytes begun m)
+          (subst (λ (m : ℕ). IsFirstRun (left_cells split c.loop-pair.left) (begun_cells (data_places split.placed.now) split.placed.now.bytes begun m)
           (left_cells split next)) (sym e) first);
     }
 
