@@ -1,5 +1,5 @@
 -- A frame that is taken apart into the runs of its sources.
-use Rattle.std.specs.Prelude.{◌≡◌, ℕ, ◌+◌, ◌*◌, ◌/◌, ◌%◌, ◌^◌, ◌<◌, ◌≤◌, List, [], ◌∷◌, ◌++◌, length, take, drop}
+use Rattle.std.specs.Prelude.{◌≡◌, ℕ, ◌+◌, ◌*◌, ◌/◌, ◌%◌, ◌^◌, ◌<◌, ◌≤◌, List, [], ◌∷◌, ◌++◌, length, take, drop, Option}
 use Rattle.std.specs.Prelude.{slice_index}
 use Rattle.source_merge.specs.Names.{Cell, cells, places_of, run_cells, run_length, byte_in, place_in, frame_places}
 use Rattle.source_merge.specs.Names.{ends_from, ends_left, source_id}
@@ -12,8 +12,18 @@ use Rattle.source_merge.specs.declared.split.RunsLeft.{RunsLeft}
 use Rattle.source_merge.specs.declared.split.SplitFrame.{SplitFrame}
 use Rattle.source_merge.specs.declared.split.SplitRun.{SplitRun}
 
+-- a run that has begun: its source, how many IDs the frame has named up to it, and the index of its first byte
+pub record RunStart : Type 0 where
+  pub source : Option ℕ
+  pub run : ℕ
+  pub from : ℕ
+
+-- what has begun, by the number of its source
+abbrev pub run_begun : Begun → RunStart
+run_begun begun = record { source = source_id begun.number; run = begun.run; from = begun.from }
+
 -- the cells of the run that has begun, up to an index, where these bytes are at these offsets
-abbrev pub begun_cells : List ℕ → List ℕ → Begun → ℕ → List Cell
+abbrev pub begun_cells : List ℕ → List ℕ → RunStart → ℕ → List Cell
 begun_cells offsets bytes begun end =
     run_cells (drop begun.from (take end offsets)) begun.source begun.run (drop begun.from (take end bytes))
 
@@ -27,7 +37,7 @@ data_places placed = places_of placed.at placed.behind
 
 -- the cells of one of its runs
 abbrev pub run_in : SplitRun → List Cell
-run_in run = begun_cells (data_places run.placed.now) run.placed.now.bytes run.begun run.end
+run_in run = begun_cells (data_places run.placed.now) run.placed.now.bytes (run_begun run.begun) run.end
 
 -- The data of a frame whose bytes are at these offsets are in their places.
 pub record AreInPlace (frame at bytes places : List ℕ) : Type 0 where
@@ -51,12 +61,12 @@ abbrev pub suits_split : SplitFrame → List Slot → Type 0
 suits_split split slots = IsSplit split
 
 -- what begins where a run ends at this pair
-abbrev pub begun_after : List ℕ → Begun → ℕ → Begun
+abbrev pub begun_after : List ℕ → RunStart → ℕ → RunStart
 begun_after frame begun k =
     record { source = source_id (slice_index frame (2 * k) / 2); run = begun.run + 1; from = end_at frame k + 1 }
 
 -- the cells of a frame from the run that has begun on, where its runs end at these pairs from there on
-abbrev pub cells_to : SplitFrame → Begun → List ℕ → List Cell
+abbrev pub cells_to : SplitFrame → RunStart → List ℕ → List Cell
 cells_to split begun [] = []
 cells_to split begun (k ∷ ends) =
     begun_cells (data_places split.placed.now) split.placed.now.bytes begun (end_at split.frame.now.bytes k)
@@ -64,7 +74,7 @@ cells_to split begun (k ∷ ends) =
 
 -- those of the runs that are left
 abbrev pub left_cells : SplitFrame → RunsLeft → List Cell
-left_cells split left = cells_to split left.begun (ends_left left.ends)
+left_cells split left = cells_to split (run_begun left.begun) (ends_left left.ends)
 
 -- They end at the frame's ends from a pair on. The first of them began before it, or there.
 pub record IsLeft (split : SplitFrame) (left : RunsLeft) : Type 0 where

@@ -2,6 +2,7 @@
 
 ghost use Rattle.std.specs.Prelude.{◌≡◌, ◌≤◌, ◌<◌, ◌+◌, ◌^◌, length, Option};
 ghost use Rattle.source_merge.specs.declared.split.TheConstants.{DATA_BYTES};
+ghost use Rattle.source_merge.specs.Names.{source_id};
 ghost use Rattle.source_merge.specs.declared.run.TheConstants.{ROOM};
 
 use crate::counts::{ByteCounts, PerSource};
@@ -19,6 +20,9 @@ use trace_values::{Cell, SourceId};
 
 /// How many bytes of a frame are data, but for its ID bytes.
 const DATA_BYTES: usize = 15;
+
+/// What an ID byte names where the bytes after it have no source.
+const NO_SOURCE: u8 = 127;
 
 /// The data of a frame in their places. It has no padding, which would be filled and copied with it.
 #[derive(Drop)]
@@ -84,14 +88,26 @@ impl PlacedData {
     }
 }
 
-/// A run that has begun. Its fields are bytes, so that a run of a frame has no padding.
+/// A run that has begun. Its fields are so small that a run of a frame has no padding.
 #[derive(Clone, Copy, Drop)]
 struct Begun {
-    source: Option<SourceId>,
+    /// The number of its source. It has none where this is `NO_SOURCE`.
+    number: u8,
     /// How many IDs the frame has named up to it.
     run: u8,
     /// The index of its first byte.
-    from: u8,
+    from: u16,
+}
+
+/// The number of this source, or of none.
+#[inline(always)]
+fn number_of(source: &Option<SourceId>) -> u8
+    ensures { source_id result ≡ source.now }
+{
+    match source {
+        Some(id) => id.number(),
+        None => NO_SOURCE,
+    }
 }
 
 /// The runs of a frame that are still to be taken.
@@ -119,7 +135,7 @@ pub struct SplitFrame<'a> {
 impl<'f> SplitFrame<'f> {
     ghost use Rattle.std.specs.Prelude.{◌*◌, ◌/◌, [], None, IfSome, slice_index};
     ghost use Rattle.source_merge.specs.Counting.{bytes_counted};
-    ghost use Rattle.source_merge.specs.Names.{COUNT_ROOM, source_id};
+    ghost use Rattle.source_merge.specs.Names.{COUNT_ROOM};
     ghost use Rattle.source_merge.specs.Stepping.{CountsFrame};
     ghost use Rattle.frame_runs.specs.Pairs.{end_at};
     ghost use Rattle.source_merge.specs.Split.{IsDataOf, IsFirstRun, IsLeft, IsSplit, left_cells, run_in, split_cells};
@@ -154,7 +170,7 @@ impl<'f> SplitFrame<'f> {
     {
         RunsLeft {
             begun: Begun {
-                source: self.id,
+                number: number_of(&self.id),
                 run: 0,
                 from: 0,
             },
@@ -209,15 +225,15 @@ impl<'f> SplitFrame<'f> {
         requires run { run ≤ pair }
         requires end { end ≤ DATA_BYTES }
         ensures { result ≡ record {
-          source = source_id (slice_index self.now.frame.now.bytes (2 * pair) / 2);
+          number = slice_index self.now.frame.now.bytes (2 * pair) / 2;
           run = run + 1;
           from = end + 1;
         } }
     {
         Begun {
-            source: SourceId::new(self.frame.bytes[2 * pair] / 2),
+            number: self.frame.bytes[2 * pair] / 2,
             run: run + 1,
-            from: (end + 1) as u8,
+            from: (end + 1) as u16,
         }
     }
 
@@ -253,7 +269,7 @@ impl SplitRun<'_> {
     pub fn source(&self) -> Option<SourceId>
         ensures { IsRunOf result (run_in self.now) }
     {
-        self.begun.source
+        SourceId::new(self.begun.number)
     }
 }
 
@@ -282,7 +298,7 @@ impl Run for SplitRun<'_> {
         let here = self.begun.from as usize + index;
         Cell {
             at: self.placed.offset_of(here),
-            id: self.begun.source,
+            id: SourceId::new(self.begun.number),
             run: self.begun.run,
             byte: self.placed.byte_at(here),
         }

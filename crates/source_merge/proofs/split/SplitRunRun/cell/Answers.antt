@@ -1,6 +1,6 @@
-use Rattle.std.proofs.Common.{◌<◌, ◌+◌, ◌-◌, ℕ, sym, ◌∙◌, ap, arith}
+use Rattle.std.proofs.Common.{◌<◌, ◌+◌, ◌-◌, ℕ, Option, sym, ◌∙◌, ap, arith}
 use Rattle.std.specs.Prelude.{slice_index}
-use Rattle.source_merge.specs.Names.{Cell}
+use Rattle.source_merge.specs.Names.{Cell, source_id}
 use Rattle.source_merge.proofs.Placing.{offset_is}
 use Rattle.source_merge.proofs.RunCells.{run_length, run_cell}
 use Rattle.source_merge.proofs.split.SplitRunRun.cell.Goals as goal
@@ -23,8 +23,9 @@ returns c =
     let within = run.within in
     let l : i < run.end - begun.from = (let h = c.requires in let r = run_length run in omega (arith, h, r)) in
     let long = placed.places in
-    let own : ℕ → ℕ → Cell = λ at byte. record { at = at; id = begun.source; run = begun.run; byte = byte } in
-    ap (λ (x : ℕ). own x c.byte_at.result) c.offset_of.ensures
+    let own : ℕ → ℕ → Cell = λ at byte. record { at = at; id = source_id begun.number; run = begun.run; byte = byte } in
+    ap (λ (x : Option ℕ). record { at = c.offset_of.result; id = x; run = begun.run; byte = c.byte_at.result }) c.new.ensures
+    ∙ ap (λ (x : ℕ). own x c.byte_at.result) c.offset_of.ensures
     ∙ ap (λ (x : ℕ). own (placed.at + slice_index placed.behind (begun.from + i)) x) c.byte_at.ensures
     ∙ ap (λ (x : ℕ). own x (slice_index placed.bytes (begun.from + i)))
     (sym (offset_is placed.at placed.behind (begun.from + i) (omega (arith, l, within, long))))
