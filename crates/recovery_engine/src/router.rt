@@ -20,7 +20,7 @@ use deformatter::PortStep;
 use frame_grammar::gather::PlacedFrame;
 use recovering_machines::Hearer;
 use source_events::{Event, What, run_length};
-use source_merge::{CellRun, Run, SplitFrame};
+use source_merge::{CellRun, PlacedData, Run, SplitFrame};
 use stretch_readings::Heard;
 use trace_values::{Cell, SourceId};
 
@@ -106,7 +106,8 @@ pub fn take_whole<V: Hearer>(
     ensures few { total slots.new ≤ total slots.old + 90 }
     ensures room { V.room (out.old, to.old) ≤ V.room (out.new, to.new) + 30 }
 {
-    let split = SplitFrame::of(frame, id);
+    let placed = PlacedData::of(frame);
+    let split = SplitFrame::of(frame, &placed, id);
     let mut left = split.runs();
     while let Some(run) = split.next_run(&mut left) {
         take_run(slots, &run.source(), &run, out, to);

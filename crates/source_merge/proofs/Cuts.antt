@@ -5,8 +5,7 @@ use Rattle.std.proofs.lemmas.Bool.Decides.{nat_tests}
 use Rattle.std.proofs.lemmas.Bool.{cases_lt, true≢false}
 use Rattle.source_merge.specs.Names.{Cell, source_id, aux_bit, cells, names, frame_places, ends_from, ends_left, run_length}
 use Rattle.frame_runs.specs.Pairs.{end_at, is_end}
-use Rattle.source_merge.specs.Split.{AreInPlace, IsFirstRun, IsLeft, IsSplit, begun_after, begun_cells, cells_to, left_cells, split_cells, split_places}
-use Rattle.source_merge.specs.declared.split.Begun.{Begun}
+use Rattle.source_merge.specs.Split.{AreInPlace, IsFirstRun, IsLeft, IsSplit, RunStart, begun_after, begun_cells, cells_to, data_places, left_cells, run_begun, split_cells}
 use Rattle.source_merge.specs.declared.split.RunsLeft.{RunsLeft}
 use Rattle.source_merge.specs.declared.split.SplitFrame.{SplitFrame}
 use Rattle.source_merge.proofs.Parts.{part_run}
@@ -14,23 +13,23 @@ use Rattle.frame_runs.proofs.Ends.{next_end, no_end}
 use Rattle.source_merge.proofs.Splitting.{Part, AreParts, IsCut, all_cells, all_parts, cells_of_parts, divided, ended, none_yet, part_to, passed_to, places_long, starts_cut}
 
 -- the part that has begun, if it has a byte before an index, and others
-abbrev pub ended_before : Begun → ℕ → List Part → List Part
+abbrev pub ended_before : RunStart → ℕ → List Part → List Part
 ended_before begun end rest = if nat_lt begun.from end then part_to begun end ∷ rest else rest
 
 -- the parts that end at these pairs
-abbrev pub parts_from : List ℕ → Begun → List ℕ → List Part
+abbrev pub parts_from : List ℕ → RunStart → List ℕ → List Part
 parts_from frame begun [] = []
 parts_from frame begun (k ∷ ends) = ended_before begun (end_at frame k) (parts_from frame (begun_after frame begun k) ends)
 
-pub some_before : (begun : Begun) (end : ℕ) (rest : List Part) → begun.from < end → ended_before begun end rest ≡ part_to begun end ∷ rest
+pub some_before : (begun : RunStart) (end : ℕ) (rest : List Part) → begun.from < end → ended_before begun end rest ≡ part_to begun end ∷ rest
 some_before begun end rest h =
     ap (λ (t : Bool). cond t (part_to begun end ∷ rest) rest) (let e : nat_lt begun.from end ≡ true = grind (arith, nat_tests) in e)
 
-pub none_before : (begun : Begun) (end : ℕ) (rest : List Part) → end ≤ begun.from → ended_before begun end rest ≡ rest
+pub none_before : (begun : RunStart) (end : ℕ) (rest : List Part) → end ≤ begun.from → ended_before begun end rest ≡ rest
 none_before begun end rest h =
     ap (λ (t : Bool). cond t (part_to begun end ∷ rest) rest) (let e : nat_lt begun.from end ≡ false = grind (arith, nat_tests) in e)
 
-joined : (parts rest : List Part) (begun : Begun) (end : ℕ) → parts ++ ended_before begun end rest ≡ ended parts begun end ++ rest
+joined : (parts rest : List Part) (begun : RunStart) (end : ℕ) → parts ++ ended_before begun end rest ≡ ended parts begun end ++ rest
 joined parts rest begun end = by (nat_lt begun.from end) where
   by : (t : Bool) → parts ++ cond t (part_to begun end ∷ rest) rest ≡ cond t (parts ++ part_to begun end ∷ []) parts ++ rest
   by true = sym (append_assoc parts (part_to begun end ∷ []) rest)
@@ -77,7 +76,7 @@ module _ (frame at : List ℕ) (id : Option ℕ) (os bs : List ℕ) (long : leng
     pub cells : cells_of_parts os bs parts ≡ cells frame at id
     pub are : AreParts 0 8 15 parts
 
-  last_all : (parts : List Part) (begun : Begun) (ends : List ℕ) → ends ≡ [] → begun.from ≤ 14 → begun.run ≤ 7 → IsCut frame at id os bs 7 parts begun →
+  last_all : (parts : List Part) (begun : RunStart) (ends : List ℕ) → ends ≡ [] → begun.from ≤ 14 → begun.run ≤ 7 → IsCut frame at id os bs 7 parts begun →
       AreAll (parts ++ ended_before begun (end_at frame 7) (parts_from frame (begun_after frame begun 7) ends))
   last_all parts begun ends none from run cut =
       subst (λ (l : List Part). AreAll l)
@@ -88,7 +87,7 @@ module _ (frame at : List ℕ) (id : Option ℕ) (os bs : List ℕ) (long : leng
         are = all_parts frame at id os bs long wide placed parts begun from cut run;
       })
 
-  named_at : (ends : List ℕ) (k : ℕ) (parts : List Part) (begun : Begun) → k < 7 → is_end frame k ≡ true →
+  named_at : (ends : List ℕ) (k : ℕ) (parts : List Part) (begun : RunStart) → k < 7 → is_end frame k ≡ true →
       begun.from ≤ 2 * k → begun.run ≤ k → IsCut frame at id os bs k parts begun →
       (IsCut frame at id os bs (k + 1) (ended parts begun (end_at frame k)) (begun_after frame begun k) →
       AreAll (ended parts begun (end_at frame k) ++ parts_from frame (begun_after frame begun k) ends)) →
@@ -98,14 +97,14 @@ module _ (frame at : List ℕ) (id : Option ℕ) (os bs : List ℕ) (long : leng
       (more (divided frame at id os bs long wide placed k parts begun less from cut (named_end frame k less is) (end_at frame k)
       (source_id (slice_index frame (2 * k) / 2)) refl (end_below frame k less)))
 
-  last_at : (ends : List ℕ) (k : ℕ) (parts : List Part) (begun : Begun) → k ≡ 7 → ends ≡ ends_from frame (k + 1) →
+  last_at : (ends : List ℕ) (k : ℕ) (parts : List Part) (begun : RunStart) → k ≡ 7 → ends ≡ ends_from frame (k + 1) →
       begun.from ≤ 2 * k → begun.run ≤ k → IsCut frame at id os bs k parts begun → AreAll (parts ++ parts_from frame begun (k ∷ ends))
   last_at ends k parts begun is left from run cut =
       subst (λ (n : ℕ). AreAll (parts ++ ended_before begun (end_at frame n) (parts_from frame (begun_after frame begun n) ends))) (sym is)
       (last_all parts begun ends (left ∙ ap (λ (n : ℕ). ends_from frame (n + 1)) is ∙ none_after frame) (omega (arith, from, is)) (omega (arith, run, is))
       (subst (λ (n : ℕ). IsCut frame at id os bs n parts begun) is cut))
 
-  all_from : (ends : List ℕ) (p : ℕ) (parts : List Part) (begun : Begun) → p ≤ 7 → ends ≡ ends_from frame p → begun.from ≤ 2 * p → begun.run ≤ p →
+  all_from : (ends : List ℕ) (p : ℕ) (parts : List Part) (begun : RunStart) → p ≤ 7 → ends ≡ ends_from frame p → begun.from ≤ 2 * p → begun.run ≤ p →
       IsCut frame at id os bs p parts begun → AreAll (parts ++ parts_from frame begun ends)
   all_from [] p parts begun low e from run cut =
       absurd (true≢false (sym (last_end frame) ∙ no_end frame p (omega (arith, low)) (sym e) 7 low (omega arith)))
@@ -121,7 +120,7 @@ module _ (frame at : List ℕ) (id : Option ℕ) (os bs : List ℕ) (long : leng
       (passed_to frame at id os bs long wide placed parts begun p k first (omega (arith, under)) from (λ j l m. not_named frame j (n.3 j l m)) cut)) (cases_lt k 7)
 
   -- from the first pair on
-  pub all_of : (begun : Begun) (ends : List ℕ) → begun.source ≡ id → begun.run ≡ 0 → begun.from ≡ 0 → ends ≡ ends_from frame 0 →
+  pub all_of : (begun : RunStart) (ends : List ℕ) → begun.source ≡ id → begun.run ≡ 0 → begun.from ≡ 0 → ends ≡ ends_from frame 0 →
       AreAll (parts_from frame begun ends)
   all_of begun ends source run from e =
       all_from ends 0 [] begun (omega arith) e (omega (arith, from)) (omega (arith, run)) (starts_cut frame at id os bs long wide placed begun source run)
@@ -131,11 +130,11 @@ module _ (split : SplitFrame) where
   named = split.frame.now.bytes
 
   abbrev places : List ℕ
-  places = split_places split
+  places = data_places split.placed.now
 
   -- what is left is parts of the frame, one after the other
-  pub record AreLeft (begun : Begun) (ends : List ℕ) : Type 0 where
-    pub cells : cells_to split begun ends ≡ cells_of_parts places split.bytes (parts_from named begun ends)
+  pub record AreLeft (begun : RunStart) (ends : List ℕ) : Type 0 where
+    pub cells : cells_to split begun ends ≡ cells_of_parts places split.placed.now.bytes (parts_from named begun ends)
     pub are : AreParts begun.run 8 15 (parts_from named begun ends)
 
   -- the runs of parts rise from a lower number, too
@@ -143,31 +142,31 @@ module _ (split : SplitFrame) where
   from_lower run more [] h a = (let e = a in omega arith)
   from_lower run more (p ∷ parts) h a = ((let e = a.0 in omega arith), a.1, a.2, a.3)
 
-  one_left : (k : ℕ) (begun : Begun) (ends : List ℕ) → k < 8 → AreLeft (begun_after named begun k) ends → AreLeft begun (k ∷ ends)
+  one_left : (k : ℕ) (begun : RunStart) (ends : List ℕ) → k < 8 → AreLeft (begun_after named begun k) ends → AreLeft begun (k ∷ ends)
   one_left k begun ends below more =
       let end = end_at named k in
       let next = begun_after named begun k in
       let rest = parts_from named next ends in
       let near = end_near named k below in
       let most = near.1 in
-      let long = places_long split in
+      let long = places_long split.placed.now in
       ⊎_elim
       (λ less. record {
-        cells = ap (λ (l : List Cell). begun_cells places split.bytes begun end ++ l) more.cells
-            ∙ ap (cells_of_parts places split.bytes) (sym (some_before begun end rest less));
+        cells = ap (λ (l : List Cell). begun_cells places split.placed.now.bytes begun end ++ l) more.cells
+            ∙ ap (cells_of_parts places split.placed.now.bytes) (sym (some_before begun end rest less));
         are = subst (λ (l : List Part). AreParts begun.run 8 15 l) (sym (some_before begun end rest less))
             ((let e : begun.run ≤ begun.run = omega arith in e), less, most, more.are);
       })
       (λ none. record {
         cells = ap (λ (l : List Cell). l ++ cells_to split next ends)
-            (none_yet places split.bytes begun end none (omega (arith, most, long)))
-            ∙ more.cells ∙ ap (cells_of_parts places split.bytes) (sym (none_before begun end rest none));
+            (none_yet places split.placed.now.bytes begun end none (omega (arith, most, long)))
+            ∙ more.cells ∙ ap (cells_of_parts places split.placed.now.bytes) (sym (none_before begun end rest none));
         are = subst (λ (l : List Part). AreParts begun.run 8 15 l) (sym (none_before begun end rest none))
             (from_lower begun.run (begun.run + 1) rest (omega arith) more.are);
       })
       (cases_lt begun.from end)
 
-  pub left_are : (ends : List ℕ) (p : ℕ) (begun : Begun) → p ≤ 8 → ends ≡ ends_from named p → begun.run ≤ p → AreLeft begun ends
+  pub left_are : (ends : List ℕ) (p : ℕ) (begun : RunStart) → p ≤ 8 → ends ≡ ends_from named p → begun.run ≤ p → AreLeft begun ends
   left_are [] p begun low e run = record { cells = refl; are = (let h : begun.run ≤ 8 = omega (arith, low, run) in h) }
   left_are (k ∷ ends) p begun low e run =
       let n = next_end named p k ends low (sym e) in
@@ -177,11 +176,11 @@ module _ (split : SplitFrame) where
       (left_are ends (k + 1) (begun_after named begun k) (omega (arith, below)) n.4 (omega (arith, first, run)))
 
   -- from the first of them on it is all of the frame
-  pub all_left : (s : IsSplit split) (begun : Begun) → begun.source ≡ split.id → begun.run ≡ 0 → begun.from ≡ 0 →
+  pub all_left : (s : IsSplit split) (begun : RunStart) → begun.source ≡ split.id → begun.run ≡ 0 → begun.from ≡ 0 →
       cells_to split begun (ends_left split.ends) ≡ split_cells split
   all_left s begun source run from =
       (left_are (ends_left split.ends) 0 begun (omega arith) s.ends (omega (arith, run))).cells
-      ∙ (all_of named (frame_places split.frame.now) split.id places split.bytes (places_long split) split.sized s.placed
+      ∙ (all_of named (frame_places split.frame.now) split.id places split.placed.now.bytes (places_long split.placed.now) split.placed.now.sized s.placed
       begun (ends_left split.ends) source run from s.ends).cells
 
   -- the next end of a run
@@ -193,11 +192,11 @@ module _ (split : SplitFrame) where
     runs_below = let first = (next_end named i.pair k ends i.last (sym i.ends ∙ some)).0 in let run = i.run in omega (arith, first, run)
 
   module _ (left next : RunsLeft) (k : ℕ) (i : IsLeft split left) (some : ends_left left.ends ≡ k ∷ ends_left next.ends)
-      (n : next.begun ≡ begun_after named left.begun k) where
+      (n : run_begun next.begun ≡ begun_after named (run_begun left.begun) k) where
     pub next_left : IsLeft split next
     next_left =
-        let run = ap (λ (x : Begun). x.run) n in
-        let from = ap (λ (x : Begun). x.from) n in
+        let run = ap (λ (x : RunStart). x.run) n in
+        let from = ap (λ (x : RunStart). x.from) n in
         let below = pair_below left k (ends_left next.ends) i some in
         let runs = runs_below left k (ends_left next.ends) i some in
         let near = (end_near named k below).0 in
@@ -209,10 +208,10 @@ module _ (split : SplitFrame) where
           from = omega (arith, from, near);
         }
 
-    left_is : left_cells split left ≡ begun_cells places split.bytes left.begun (end_at named k) ++ left_cells split next
+    left_is : left_cells split left ≡ begun_cells places split.placed.now.bytes (run_begun left.begun) (end_at named k) ++ left_cells split next
     left_is =
-        ap (cells_to split left.begun) some
-        ∙ ap (λ (b : Begun). begun_cells places split.bytes left.begun (end_at named k) ++ cells_to split b (ends_left next.ends))
+        ap (cells_to split (run_begun left.begun)) some
+        ∙ ap (λ (b : RunStart). begun_cells places split.placed.now.bytes (run_begun left.begun) (end_at named k) ++ cells_to split b (ends_left next.ends))
         (sym n)
 
     -- the run that ends there had no byte
@@ -220,29 +219,29 @@ module _ (split : SplitFrame) where
     none_here h =
         let below = pair_below left k (ends_left next.ends) i some in
         let most = (end_near named k below).1 in
-        let long = places_long split in
+        let long = places_long split.placed.now in
         left_is ∙ ap (λ (l : List Cell). l ++ left_cells split next)
-        (none_yet places split.bytes left.begun (end_at named k) h (omega (arith, most, long)))
+        (none_yet places split.placed.now.bytes (run_begun left.begun) (end_at named k) h (omega (arith, most, long)))
 
     -- or it is the first one
     pub first_here : left.begun.from < end_at named k →
-        IsFirstRun (left_cells split left) (begun_cells places split.bytes left.begun (end_at named k)) (left_cells split next)
+        IsFirstRun (left_cells split left) (begun_cells places split.placed.now.bytes (run_begun left.begun) (end_at named k)) (left_cells split next)
     first_here h =
         let j = next_left in
-        let more = left_are (ends_left next.ends) j.pair next.begun j.last j.ends j.run in
+        let more = left_are (ends_left next.ends) j.pair (run_begun next.begun) j.last j.ends j.run in
         let below = pair_below left k (ends_left next.ends) i some in
         let most = (end_near named k below).1 in
-        let part = part_to left.begun (end_at named k) in
-        let parts = parts_from named next.begun (ends_left next.ends) in
-        let own = begun_cells places split.bytes left.begun (end_at named k) in
+        let part = part_to (run_begun left.begun) (end_at named k) in
+        let parts = parts_from named (run_begun next.begun) (ends_left next.ends) in
+        let own = begun_cells places split.placed.now.bytes (run_begun left.begun) (end_at named k) in
         record {
           parts = left_is;
           size =
-              part_run places split.bytes (places_long split) split.sized left.begun.run 8 15 part parts (omega arith) (
+              part_run places split.placed.now.bytes (places_long split.placed.now) split.placed.now.sized left.begun.run 8 15 part parts (omega arith) (
                 (let e : left.begun.run ≤ left.begun.run = omega arith in e),
                 h,
                 most,
-                subst (λ (b : Begun). AreParts b.run 8 15 parts) n more.are,
+                subst (λ (b : RunStart). AreParts b.run 8 15 parts) n more.are,
               )
               ∙ ap (λ (l : List Cell). run_length (own ++ l)) (sym more.cells) ∙ ap run_length (sym left_is);
         }

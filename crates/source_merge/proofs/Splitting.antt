@@ -8,9 +8,8 @@ use Rattle.source_merge.specs.Names.{Cell, source_id, names, aux_bit, cells, run
 use Rattle.frame_grammar.specs.Frame.{even_data, cells_below, IsInForce}
 use Rattle.frame_grammar.proofs.Looks.{starts, passes, names_now, defers, names_next}
 use Rattle.frame_grammar.proofs.Pairs.{made, plain, named, more_cells, whole_plain, whole_named, even_plain}
-use Rattle.source_merge.specs.Split.{begun_cells, split_places, AreInPlace}
-use Rattle.source_merge.specs.declared.split.Begun.{Begun}
-use Rattle.source_merge.specs.declared.split.SplitFrame.{SplitFrame}
+use Rattle.source_merge.specs.Split.{RunStart, begun_cells, data_places, AreInPlace}
+use Rattle.source_merge.specs.declared.split.PlacedData.{PlacedData}
 
 -- a run of a frame: its data from one index up to another
 pub record Part : Type 0 where
@@ -35,15 +34,15 @@ AreParts run next end (p ∷ parts) =
     (run ≤ p.run) × (p.from < p.end) × (p.end ≤ end) × AreParts (p.run + 1) next end parts
 
 -- what has begun, as a part that ends before an index
-abbrev pub part_to : Begun → ℕ → Part
+abbrev pub part_to : RunStart → ℕ → Part
 part_to begun end = record { source = begun.source; run = begun.run; from = begun.from; end = end }
 
 -- these parts, and the one that has begun, if it has a byte before an index
-abbrev pub ended : List Part → Begun → ℕ → List Part
+abbrev pub ended : List Part → RunStart → ℕ → List Part
 ended parts begun end = if nat_lt begun.from end then parts ++ part_to begun end ∷ [] else parts
 
 -- A frame that comes after this ID is taken apart up to index `2 * pair`, into parts and one that has begun.
-pub record IsCut (frame at : List ℕ) (id : Option ℕ) (os bs : List ℕ) (pair : ℕ) (parts : List Part) (begun : Begun) : Type 0 where
+pub record IsCut (frame at : List ℕ) (id : Option ℕ) (os bs : List ℕ) (pair : ℕ) (parts : List Part) (begun : RunStart) : Type 0 where
   pub cells : cells_of_parts os bs parts ++ begun_cells os bs begun (2 * pair) ≡ cells_below frame at id pair
   pub here : IsInForce frame id (2 * pair) begun.source begun.run
   pub are : AreParts 0 begun.run (2 * pair) parts
@@ -68,7 +67,7 @@ no_items from n xs h l = let s = length-take-le n xs l in drop_all from (take n 
 items_length : (from n : ℕ) (xs : List ℕ) → n ≤ length xs → length (drop from (take n xs)) ≡ n - from
 items_length from n xs l = let s = length-take-le n xs l in length-drop from (take n xs) ∙ ap (λ (k : ℕ). k - from) s
 
-module _ (offsets bytes : List ℕ) (begun : Begun) where
+module _ (offsets bytes : List ℕ) (begun : RunStart) where
   pub one_more : (n : ℕ) → begun.from ≤ n → n < length offsets → n < length bytes →
       begun_cells offsets bytes begun (n + 1) ≡
       begun_cells offsets bytes begun n ++ made (slice_index offsets n) begun.source begun.run (slice_index bytes n) ∷ []
@@ -105,16 +104,16 @@ push_part : (run end : ℕ) (p : Part) (parts : List Part) → p.from < p.end �
 push_part run end p [] h l a = (a, h, l, (let e : p.run + 1 ≤ p.run + 1 = omega arith in e))
 push_part run end p (q ∷ parts) h l a = (a.0, a.1, a.2, push_part (q.run + 1) end p parts h l a.3)
 
-ended_by : (begun : Begun) (end : ℕ) (parts : List Part) (t : Bool) → (t ≡ true → begun.from < end) → AreParts 0 begun.run end parts →
+ended_by : (begun : RunStart) (end : ℕ) (parts : List Part) (t : Bool) → (t ≡ true → begun.from < end) → AreParts 0 begun.run end parts →
     AreParts 0 (begun.run + 1) end (cond t (parts ++ (record { source = begun.source; run = begun.run; from = begun.from; end = end }) ∷ []) parts)
 ended_by begun end parts true h a = push_part 0 end (record { source = begun.source; run = begun.run; from = begun.from; end = end }) parts (h refl) (omega arith) a
 ended_by begun end parts false h a = parts_up 0 begun.run end (begun.run + 1) end parts (omega arith) (omega arith) a
 
-pub ended_parts : (begun : Begun) (end n : ℕ) (parts : List Part) → n ≤ end → AreParts 0 begun.run n parts → AreParts 0 (begun.run + 1) end (ended parts begun end)
+pub ended_parts : (begun : RunStart) (end n : ℕ) (parts : List Part) → n ≤ end → AreParts 0 begun.run n parts → AreParts 0 (begun.run + 1) end (ended parts begun end)
 ended_parts begun end n parts h a =
     ended_by begun end parts (nat_lt begun.from end) (λ e. grind (arith, nat_tests)) (parts_up 0 begun.run n begun.run end parts (omega arith) h a)
 
-two_more : (offsets bytes : List ℕ) (begun : Begun) (n : ℕ) → begun.from ≤ n → n + 1 < length offsets → n + 1 < length bytes →
+two_more : (offsets bytes : List ℕ) (begun : RunStart) (n : ℕ) → begun.from ≤ n → n + 1 < length offsets → n + 1 < length bytes →
     begun_cells offsets bytes begun (n + 1 + 1) ≡
     (begun_cells offsets bytes begun n ++ made (slice_index offsets n) begun.source begun.run (slice_index bytes n) ∷ [])
     ++ made (slice_index offsets (n + 1)) begun.source begun.run (slice_index bytes (n + 1)) ∷ []
@@ -134,8 +133,8 @@ bit_or_none : (n : ℕ) → n < 2 → (n ≡ 0) ⊎ (n ≡ 1)
 bit_or_none n h = grind arith
 
 -- how many places a frame has
-pub places_long : (split : SplitFrame) → length (split_places split) ≡ 16
-places_long split = length-map split.behind (λ (b : ℕ). split.frame.now.at + b) ∙ split.places
+pub places_long : (placed : PlacedData) → length (data_places placed) ≡ 16
+places_long placed = length-map placed.behind (λ (b : ℕ). placed.at + b) ∙ placed.places
 
 -- what is in the place of a byte at an even index: of data it itself, of an ID byte that is late the byte behind it
 late_is : (frame : List ℕ) (k : ℕ) (named : Bool) → names frame k ≡ named → is_late frame k ≡ (nat_lt k 7 && named && aux_bit frame k == 1)
@@ -170,10 +169,10 @@ late_place frame at k e = ap (λ (t : Bool). cond t (slice_index at (2 * k + 1))
 
 module _ (frame at : List ℕ) (id : Option ℕ) (os bs : List ℕ) (long : length os ≡ 16) (wide : length bs ≡ 40)
     (placed : AreInPlace frame at bs os) where
-  abbrev pub Cut : ℕ → List Part → Begun → Type 0
+  abbrev pub Cut : ℕ → List Part → RunStart → Type 0
   Cut pair parts begun = IsCut frame at id os bs pair parts begun
 
-  pub starts_cut : (begun : Begun) → begun.source ≡ id → begun.run ≡ 0 → Cut 0 [] begun
+  pub starts_cut : (begun : RunStart) → begun.source ≡ id → begun.run ≡ 0 → Cut 0 [] begun
   starts_cut begun source run = record {
     cells = none_yet os bs begun 0 (omega arith) (omega arith);
     here =
@@ -182,7 +181,7 @@ module _ (frame at : List ℕ) (id : Option ℕ) (os bs : List ℕ) (long : leng
     are = (let e : 0 ≤ begun.run = omega arith in e);
   }
 
-  module _ (pair : ℕ) (parts : List Part) (begun : Begun) (low : pair < 7) (from : begun.from ≤ 2 * pair) (s : Cut pair parts begun) where
+  module _ (pair : ℕ) (parts : List Part) (begun : RunStart) (low : pair < 7) (from : begun.from ≤ 2 * pair) (s : Cut pair parts begun) where
     abbrev old : List Cell
     old = cells_of_parts os bs parts ++ begun_cells os bs begun (2 * pair)
 
@@ -221,7 +220,7 @@ module _ (frame at : List ℕ) (id : Option ℕ) (os bs : List ℕ) (long : leng
 
     -- the first one names a source
     module _ (n : names frame pair ≡ true) (end : ℕ) (source : Option ℕ) (named_is : source ≡ source_id (slice_index frame (2 * pair) / 2)) where
-      abbrev next : Begun
+      abbrev next : RunStart
       next = record { source = source; run = begun.run + 1; from = end + 1 }
 
       abbrev own : Option ℕ → ℕ → Cell
@@ -247,7 +246,7 @@ module _ (frame at : List ℕ) (id : Option ℕ) (os bs : List ℕ) (long : leng
           ∙ named frame at id pair (begun.run + 1) source old n
           (subst (λ (i : Option ℕ). IsInForce frame id (2 * pair + 1) i (begun.run + 1)) (sym named_is)
           (names_now frame id begun.source pair begun.run (omega arith) n a s.here))) where
-            one_more_of : (b : Begun) (m : ℕ) → b.from ≤ m → m < length os → m < length bs →
+            one_more_of : (b : RunStart) (m : ℕ) → b.from ≤ m → m < length os → m < length bs →
                 begun_cells os bs b (m + 1) ≡ begun_cells os bs b m ++ made (slice_index os m) b.source b.run (slice_index bs m) ∷ []
             one_more_of b m h i j = one_more os bs b m h i j
 
@@ -292,7 +291,7 @@ module _ (frame at : List ℕ) (id : Option ℕ) (os bs : List ℕ) (long : leng
           }
 
   -- the pairs up to another one are data
-  pub passed_up : (parts : List Part) (begun : Begun) (n p : ℕ) → p + n ≤ 7 → begun.from ≤ 2 * p →
+  pub passed_up : (parts : List Part) (begun : RunStart) (n p : ℕ) → p + n ≤ 7 → begun.from ≤ 2 * p →
       ((k : ℕ) → p ≤ k → k < p + n → names frame k ≡ false) → Cut p parts begun → Cut (p + n) parts begun
   passed_up parts begun zero p few from none s = subst (λ (k : ℕ). Cut k parts begun) (let e : p ≡ p + 0 = omega arith in e) s
   passed_up parts begun (suc n) p few from none s =
@@ -300,14 +299,14 @@ module _ (frame at : List ℕ) (id : Option ℕ) (os bs : List ℕ) (long : leng
       (passed_up parts begun n (p + 1) (omega arith) (omega arith) (λ k l h. none k (omega arith) (omega arith))
       (passed p parts begun (omega arith) from s (none p (omega arith) (omega arith))))
 
-  pub passed_to : (parts : List Part) (begun : Begun) (p q : ℕ) → p ≤ q → q ≤ 7 → begun.from ≤ 2 * p →
+  pub passed_to : (parts : List Part) (begun : RunStart) (p q : ℕ) → p ≤ q → q ≤ 7 → begun.from ≤ 2 * p →
       ((k : ℕ) → p ≤ k → k < q → names frame k ≡ false) → Cut p parts begun → Cut q parts begun
   passed_to parts begun p q low few from none s =
       subst (λ (k : ℕ). Cut k parts begun) (let e : p + (q - p) ≡ q = omega arith in e)
       (passed_up parts begun (q - p) p (omega arith) from (λ k l h. none k l (omega arith)) s)
 
   -- byte 14
-  module _ (parts : List Part) (begun : Begun) (from : begun.from ≤ 14) (s : Cut 7 parts begun) where
+  module _ (parts : List Part) (begun : RunStart) (from : begun.from ≤ 14) (s : Cut 7 parts begun) where
     last_plain : slice_index frame 14 % 2 ≡ 0 → cells_of_parts os bs (ended parts begun 15) ≡ cells frame at id
     last_plain n =
         let front = cells_of_parts os bs parts in

@@ -1,17 +1,29 @@
 -- A frame that is taken apart into the runs of its sources.
-use Rattle.std.specs.Prelude.{◌≡◌, ℕ, ◌+◌, ◌*◌, ◌/◌, ◌%◌, ◌^◌, ◌<◌, ◌≤◌, List, [], ◌∷◌, ◌++◌, length, take, drop}
+use Rattle.std.specs.Prelude.{◌≡◌, ℕ, ◌+◌, ◌*◌, ◌/◌, ◌%◌, ◌^◌, ◌<◌, ◌≤◌, List, [], ◌∷◌, ◌++◌, length, take, drop, Option}
 use Rattle.std.specs.Prelude.{slice_index}
 use Rattle.source_merge.specs.Names.{Cell, cells, places_of, run_cells, run_length, byte_in, place_in, frame_places}
 use Rattle.source_merge.specs.Names.{ends_from, ends_left, source_id}
 use Rattle.frame_runs.specs.Pairs.{end_at}
 use Rattle.source_merge.specs.declared.slot.Slot.{Slot}
+use Rattle.frame_grammar.specs.declared.gather.PlacedFrame.{PlacedFrame}
 use Rattle.source_merge.specs.declared.split.Begun.{Begun}
+use Rattle.source_merge.specs.declared.split.PlacedData.{PlacedData}
 use Rattle.source_merge.specs.declared.split.RunsLeft.{RunsLeft}
 use Rattle.source_merge.specs.declared.split.SplitFrame.{SplitFrame}
 use Rattle.source_merge.specs.declared.split.SplitRun.{SplitRun}
 
+-- a run that has begun: its source, how many IDs the frame has named up to it, and the index of its first byte
+pub record RunStart : Type 0 where
+  pub source : Option ℕ
+  pub run : ℕ
+  pub from : ℕ
+
+-- what has begun, by the number of its source
+abbrev pub run_begun : Begun → RunStart
+run_begun begun = record { source = source_id begun.number; run = begun.run; from = begun.from }
+
 -- the cells of the run that has begun, up to an index, where these bytes are at these offsets
-abbrev pub begun_cells : List ℕ → List ℕ → Begun → ℕ → List Cell
+abbrev pub begun_cells : List ℕ → List ℕ → RunStart → ℕ → List Cell
 begun_cells offsets bytes begun end =
     run_cells (drop begun.from (take end offsets)) begun.source begun.run (drop begun.from (take end bytes))
 
@@ -19,13 +31,13 @@ begun_cells offsets bytes begun end =
 abbrev pub split_cells : SplitFrame → List Cell
 split_cells split = cells split.frame.now.bytes (frame_places split.frame.now) split.id
 
--- where its data in their places are
-abbrev pub split_places : SplitFrame → List ℕ
-split_places split = places_of split.frame.now.at split.behind
+-- where the data of a frame are
+abbrev pub data_places : PlacedData → List ℕ
+data_places placed = places_of placed.at placed.behind
 
 -- the cells of one of its runs
 abbrev pub run_in : SplitRun → List Cell
-run_in run = begun_cells (split_places run.frame.now) run.frame.now.bytes run.begun run.end
+run_in run = begun_cells (data_places run.placed.now) run.placed.now.bytes (run_begun run.begun) run.end
 
 -- The data of a frame whose bytes are at these offsets are in their places.
 pub record AreInPlace (frame at bytes places : List ℕ) : Type 0 where
@@ -34,9 +46,13 @@ pub record AreInPlace (frame at bytes places : List ℕ) : Type 0 where
   pub even_places : (k : ℕ) → k < 8 → slice_index places (2 * k) ≡ place_in frame at k
   pub odd_places : (k : ℕ) → k < 8 → slice_index places (2 * k + 1) ≡ slice_index at (2 * k + 1)
 
+-- these are the data of this frame, in their places
+abbrev pub IsDataOf : PlacedFrame → PlacedData → Type 0
+IsDataOf frame placed = AreInPlace frame.bytes (frame_places frame) placed.bytes (data_places placed)
+
 -- A frame is taken apart: its data are in their places, and it is known where its runs end.
 pub record IsSplit (split : SplitFrame) : Type 0 where
-  pub placed : AreInPlace split.frame.now.bytes (frame_places split.frame.now) split.bytes (split_places split)
+  pub placed : IsDataOf split.frame.now split.placed.now
   pub ends : ends_left split.ends ≡ ends_from split.frame.now.bytes 0
   pub late : (k : ℕ) → k < 8 → 2 * k + split.late / 2 ^ k % 2 ≡ end_at split.frame.now.bytes k
 
@@ -45,20 +61,20 @@ abbrev pub suits_split : SplitFrame → List Slot → Type 0
 suits_split split slots = IsSplit split
 
 -- what begins where a run ends at this pair
-abbrev pub begun_after : List ℕ → Begun → ℕ → Begun
+abbrev pub begun_after : List ℕ → RunStart → ℕ → RunStart
 begun_after frame begun k =
     record { source = source_id (slice_index frame (2 * k) / 2); run = begun.run + 1; from = end_at frame k + 1 }
 
 -- the cells of a frame from the run that has begun on, where its runs end at these pairs from there on
-abbrev pub cells_to : SplitFrame → Begun → List ℕ → List Cell
+abbrev pub cells_to : SplitFrame → RunStart → List ℕ → List Cell
 cells_to split begun [] = []
 cells_to split begun (k ∷ ends) =
-    begun_cells (split_places split) split.bytes begun (end_at split.frame.now.bytes k)
+    begun_cells (data_places split.placed.now) split.placed.now.bytes begun (end_at split.frame.now.bytes k)
     ++ cells_to split (begun_after split.frame.now.bytes begun k) ends
 
 -- those of the runs that are left
 abbrev pub left_cells : SplitFrame → RunsLeft → List Cell
-left_cells split left = cells_to split left.begun (ends_left left.ends)
+left_cells split left = cells_to split (run_begun left.begun) (ends_left left.ends)
 
 -- They end at the frame's ends from a pair on. The first of them began before it, or there.
 pub record IsLeft (split : SplitFrame) (left : RunsLeft) : Type 0 where

@@ -23,4 +23,4 @@ pub use piece::PieceRun;
 pub use receiver::Receiver;
 pub use run::{CellRun, Run};
 pub use slot::{EVENTS, Events};
-pub use split::{RunsLeft, SplitFrame, SplitRun};
+pub use split::{PlacedData, RunsLeft, SplitFrame, SplitRun};

@@ -2,6 +2,7 @@
 
 ghost use Rattle.std.specs.Prelude.{◌≡◌, ◌≤◌, ◌<◌, ◌+◌, ◌^◌, length, Option};
 ghost use Rattle.source_merge.specs.declared.split.TheConstants.{DATA_BYTES};
+ghost use Rattle.source_merge.specs.Names.{source_id};
 ghost use Rattle.source_merge.specs.declared.run.TheConstants.{ROOM};
 
 use crate::counts::{ByteCounts, PerSource};
@@ -20,14 +21,93 @@ use trace_values::{Cell, SourceId};
 /// How many bytes of a frame are data, but for its ID bytes.
 const DATA_BYTES: usize = 15;
 
-/// A run that has begun.
+/// What an ID byte names where the bytes after it have no source.
+const NO_SOURCE: u8 = 127;
+
+/// The data of a frame in their places. It has no padding, which would be filled and copied with it.
+#[derive(Drop)]
+pub struct PlacedData {
+    /// The data bytes, so that each run has its bytes one after the other. Behind them are bytes that are of no
+    /// account.
+    bytes: [u8; ROOM],
+    /// How far behind the frame's first byte each of them is.
+    behind: [u8; FRAME_BYTES],
+    /// The offset of the frame's first byte.
+    at: u64,
+    ghost sized: { length bytes ≡ ROOM },
+    ghost places: { length behind ≡ 16 },
+    ghost near: { at + 255 < 2 ^ 64 },
+}
+
+impl PlacedData {
+    ghost use Rattle.std.specs.Prelude.{drop, slice_index};
+    ghost use Rattle.frame_grammar.specs.declared.frame.TheConstants.{FRAME_BYTES};
+    ghost use Rattle.source_merge.specs.Split.{IsDataOf};
+
+    /// Those of this frame.
+    #[inline(always)]
+    pub fn of(frame: &PlacedFrame) -> PlacedData
+        requires near { frame.now.at + 255 < 2 ^ 64 }
+        ensures { IsDataOf frame.now result }
+    {
+        let (data, behind) = data_in_place(&frame.bytes, &frame.behind);
+        let mut bytes = [0; ROOM];
+        bytes[..FRAME_BYTES].copy_from_slice(&data);
+        PlacedData {
+            bytes,
+            behind,
+            at: frame.at,
+        }
+    }
+
+    /// The bytes from an index on.
+    #[inline(always)]
+    fn bytes_from(&self, from: usize) -> &[u8]
+        requires { from ≤ ROOM }
+        ensures { result.now ≡ drop from self.now.bytes }
+    {
+        &self.bytes[from..]
+    }
+
+    /// The offset of the byte at an index.
+    #[inline(always)]
+    fn offset_of(&self, index: usize) -> u64
+        requires { index < FRAME_BYTES }
+        ensures { result ≡ self.now.at + slice_index self.now.behind index }
+    {
+        self.at + u64::from(self.behind[index])
+    }
+
+    /// The byte at an index.
+    #[inline(always)]
+    fn byte_at(&self, index: usize) -> u8
+        requires { index < FRAME_BYTES }
+        ensures { result ≡ slice_index self.now.bytes index }
+    {
+        self.bytes[index]
+    }
+}
+
+/// A run that has begun. Its fields are so small that a run of a frame has no padding.
 #[derive(Clone, Copy, Drop)]
 struct Begun {
-    source: Option<SourceId>,
+    /// The number of its source. It has none where this is `NO_SOURCE`.
+    number: u8,
     /// How many IDs the frame has named up to it.
     run: u8,
     /// The index of its first byte.
-    from: usize,
+    from: u16,
+}
+
+/// The number of this source, or of none.
+#[inline(always)]
+fn number_of(source: &Option<SourceId>) -> u8
+    ensures { source_id result ≡ source.now }
+{
+    match source {
+        Some(id) => id.number(),
+        None => NO_SOURCE,
+    }
 }
 
 /// The runs of a frame that are still to be taken.
@@ -39,49 +119,42 @@ pub struct RunsLeft {
     ends: RunEnds,
 }
 
-/// A whole frame, whose data are in their places.
+/// A whole frame, with its data in their places. Of both only the data need be in memory: what is not in line gets no
+/// reference to the frame.
 #[derive(Drop)]
 pub struct SplitFrame<'a> {
     frame: &'a PlacedFrame,
-    /// The data bytes in their places, so that each run has its bytes one after the other. Behind them are bytes that
-    /// are of no account.
-    bytes: [u8; ROOM],
-    /// How far behind the frame's first byte each of them is.
-    behind: [u8; FRAME_BYTES],
+    placed: &'a PlacedData,
     /// The pairs at which its runs end, and those of which end late.
     ends: RunEnds,
     late: u8,
     /// The ID before it.
     id: Option<SourceId>,
-    ghost sized: { length bytes ≡ ROOM },
-    ghost places: { length behind ≡ 16 },
-    ghost near: { frame.now.at + 255 < 2 ^ 64 },
 }
 
 impl<'f> SplitFrame<'f> {
-    ghost use Rattle.std.specs.Prelude.{◌*◌, ◌/◌, [], None, IfSome, drop, slice_index};
+    ghost use Rattle.std.specs.Prelude.{◌*◌, ◌/◌, [], None, IfSome, slice_index};
     ghost use Rattle.source_merge.specs.Counting.{bytes_counted};
-    ghost use Rattle.source_merge.specs.Names.{COUNT_ROOM, source_id};
+    ghost use Rattle.source_merge.specs.Names.{COUNT_ROOM};
     ghost use Rattle.source_merge.specs.Stepping.{CountsFrame};
-    ghost use Rattle.frame_grammar.specs.declared.frame.TheConstants.{FRAME_BYTES};
     ghost use Rattle.frame_runs.specs.Pairs.{end_at};
-    ghost use Rattle.source_merge.specs.Split.{IsFirstRun, IsLeft, IsSplit, left_cells, run_in, split_cells};
+    ghost use Rattle.source_merge.specs.Split.{IsDataOf, IsFirstRun, IsLeft, IsSplit, left_cells, run_in, split_cells};
 
-    /// This frame, which comes after this ID.
+    /// This frame, of which these are the data, and which comes after this ID.
     #[inline(always)]
-    pub fn of(frame: &'f PlacedFrame, id: &Option<SourceId>) -> SplitFrame<'f>
-        requires near { frame.now.at + 255 < 2 ^ 64 }
+    pub fn of(
+        frame: &'f PlacedFrame,
+        placed: &'f PlacedData,
+        id: &Option<SourceId>,
+    ) -> SplitFrame<'f>
+        requires { IsDataOf frame.now placed.now }
         ensures frame { result.frame.now ≡ frame.now }
         ensures id { result.id ≡ id.now }
         ensures split { IsSplit result }
     {
-        let (data, behind) = data_in_place(&frame.bytes, &frame.behind);
-        let mut bytes = [0; ROOM];
-        bytes[..FRAME_BYTES].copy_from_slice(&data);
         SplitFrame {
             frame,
-            bytes,
-            behind,
+            placed,
             ends: RunEnds::of(&frame.bytes),
             late: late_ends(&frame.bytes),
             id: *id,
@@ -97,7 +170,7 @@ impl<'f> SplitFrame<'f> {
     {
         RunsLeft {
             begun: Begun {
-                source: self.id,
+                number: number_of(&self.id),
                 run: 0,
                 from: 0,
             },
@@ -107,7 +180,7 @@ impl<'f> SplitFrame<'f> {
 
     /// The next of its runs that are left, which is then taken from them.
     #[inline(always)]
-    pub fn next_run<'a>(&'a self, left: &mut RunsLeft) -> Option<SplitRun<'a, 'f>>
+    pub fn next_run(&self, left: &mut RunsLeft) -> Option<SplitRun<'f>>
         requires split { IsSplit self.now }
         requires left { IsLeft self.now left.old }
         ensures left { IfSome result (λ run. IsLeft self.now left.new) }
@@ -119,11 +192,11 @@ impl<'f> SplitFrame<'f> {
             let end = self.end_of(pair);
             let begun = left.begun;
             left.begun = self.begun_after(begun.run, pair, end);
-            if begun.from < end {
+            if (begun.from as usize) < end {
                 return Some(SplitRun {
-                    frame: self,
+                    placed: self.placed,
                     begun,
-                    end,
+                    end: end as u32,
                 });
             }
         }
@@ -133,13 +206,14 @@ impl<'f> SplitFrame<'f> {
     /// Counts those of its runs that are left, which no source takes any more. Kept out of line: this happens once at
     /// most.
     #[inline(never)]
-    fn count_left(&self, left: &mut RunsLeft, counts: &mut ByteCounts)
+    fn count_left(&self, left: RunsLeft, counts: &mut ByteCounts)
         requires split { IsSplit self.now }
-        requires left { IsLeft self.now left.old }
-        requires room { bytes_counted counts.old + length (left_cells self.now left.old) ≤ COUNT_ROOM }
-        ensures { CountsFrame counts.old counts.new (left_cells self.now left.old) }
+        requires left { IsLeft self.now left }
+        requires room { bytes_counted counts.old + length (left_cells self.now left) ≤ COUNT_ROOM }
+        ensures { CountsFrame counts.old counts.new (left_cells self.now left) }
     {
-        while let Some(run) = self.next_run(left) {
+        let mut rest = left;
+        while let Some(run) = self.next_run(&mut rest) {
             counts.add_run(&run.source(), run.len() as u64);
         }
     }
@@ -151,15 +225,15 @@ impl<'f> SplitFrame<'f> {
         requires run { run ≤ pair }
         requires end { end ≤ DATA_BYTES }
         ensures { result ≡ record {
-          source = source_id (slice_index self.now.frame.now.bytes (2 * pair) / 2);
+          number = slice_index self.now.frame.now.bytes (2 * pair) / 2;
           run = run + 1;
           from = end + 1;
         } }
     {
         Begun {
-            source: SourceId::new(self.frame.bytes[2 * pair] / 2),
+            number: self.frame.bytes[2 * pair] / 2,
             run: run + 1,
-            from: end + 1,
+            from: (end + 1) as u16,
         }
     }
 
@@ -173,47 +247,20 @@ impl<'f> SplitFrame<'f> {
     {
         2 * pair + usize::from((self.late >> pair) % 2)
     }
-
-    /// Its data from an index on.
-    #[inline(always)]
-    fn bytes_from(&self, from: usize) -> &[u8]
-        requires { from ≤ ROOM }
-        ensures { result.now ≡ drop from self.now.bytes }
-    {
-        &self.bytes[from..]
-    }
-
-    /// The offset of the byte at an index.
-    #[inline(always)]
-    fn offset_of(&self, index: usize) -> u64
-        requires { index < FRAME_BYTES }
-        ensures { result ≡ self.now.frame.now.at + slice_index self.now.behind index }
-    {
-        self.frame.at + u64::from(self.behind[index])
-    }
-
-    /// The byte at an index.
-    #[inline(always)]
-    fn byte_at(&self, index: usize) -> u8
-        requires { index < FRAME_BYTES }
-        ensures { result ≡ slice_index self.now.bytes index }
-    {
-        self.bytes[index]
-    }
 }
 
-/// A run of a frame.
+/// A run of a frame. It has no padding, either.
 #[derive(Drop)]
-pub struct SplitRun<'a, 'f> {
-    frame: &'a SplitFrame<'f>,
+pub struct SplitRun<'a> {
+    placed: &'a PlacedData,
     begun: Begun,
     /// The index after its last byte.
-    end: usize,
+    end: u32,
     ghost some: { begun.from < end },
     ghost within: { end ≤ DATA_BYTES },
 }
 
-impl SplitRun<'_, '_> {
+impl SplitRun<'_> {
     ghost use Rattle.source_merge.specs.Routing.{IsRunOf};
     ghost use Rattle.source_merge.specs.Split.{run_in};
 
@@ -222,18 +269,18 @@ impl SplitRun<'_, '_> {
     pub fn source(&self) -> Option<SourceId>
         ensures { IsRunOf result (run_in self.now) }
     {
-        self.begun.source
+        SourceId::new(self.begun.number)
     }
 }
 
-impl Run for SplitRun<'_, '_> {
+impl Run for SplitRun<'_> {
     ghost use Rattle.source_merge.specs.Split.{run_in};
 
     ghost cells = { run_in };
 
     #[inline(always)]
     fn len(&self) -> usize {
-        self.end - self.begun.from
+        self.end as usize - self.begun.from as usize
     }
 
     #[inline(always)]
@@ -243,17 +290,17 @@ impl Run for SplitRun<'_, '_> {
 
     #[inline(always)]
     fn ahead(&self) -> &[u8] {
-        self.frame.bytes_from(self.begun.from)
+        self.placed.bytes_from(self.begun.from as usize)
     }
 
     #[inline(always)]
     fn cell(&self, index: usize) -> Cell {
-        let here = self.begun.from + index;
+        let here = self.begun.from as usize + index;
         Cell {
-            at: self.frame.offset_of(here),
-            id: self.begun.source,
+            at: self.placed.offset_of(here),
+            id: SourceId::new(self.begun.number),
             run: self.begun.run,
-            byte: self.frame.byte_at(here),
+            byte: self.placed.byte_at(here),
         }
     }
 }
@@ -279,7 +326,15 @@ impl FrameCells for SplitFrame<'_> {
             let id = run.source();
             counts.add_run(&id, run.len() as u64);
             if let Some(stop) = take_run(slots, &id, &run, items, out, to) {
-                self.count_left(&mut left, counts);
+                // a copy, so that the frame itself need not be in memory
+                let split = SplitFrame {
+                    frame: self.frame,
+                    placed: self.placed,
+                    ends: self.ends,
+                    late: self.late,
+                    id: self.id,
+                };
+                split.count_left(left, counts);
                 return Some(stop);
             }
         }

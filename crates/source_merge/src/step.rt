@@ -12,7 +12,7 @@ use crate::counts::{ByteCounts, Counters, PerSource, add_step};
 use crate::frame::FrameCells;
 use crate::receiver::Receiver;
 use crate::slot::{Slot, give};
-use crate::split::SplitFrame;
+use crate::split::{PlacedData, SplitFrame};
 use deformatter::PortStep;
 use frame_grammar::gather::PlacedFrame;
 use frame_runs::after_frame;
@@ -135,7 +135,8 @@ pub fn take_whole<V: Receiver>(
         TakesStep step slots.old slots.new result.stop given
         × CountsStep step counters.old counters.new given) }
 {
-    let split = SplitFrame::of(frame, id);
+    let placed = PlacedData::of(frame);
+    let split = SplitFrame::of(frame, &placed, id);
     let after = after_frame(&frame.bytes, id);
     let stop = take_step(slots, counters, at, PortStep::Frame, &split, out, to);
     FrameTaken { after, stop }

@@ -7,7 +7,7 @@ use Rattle.source_merge.proofs.split.SplitFrame.count_left.Goals as goal
 pub loop-run-init : goal.loop-run-init
 loop-run-init c = record {
   left = c.requires.left;
-  counted = counting_first (left_cells c.args.self.now c.args.left.now) c.args.counts.now;
+  counted = counting_first (left_cells c.args.self.now c.args.left) c.args.counts.now;
 }
 
 pub loop-run-smaller : goal.loop-run-smaller
@@ -33,7 +33,7 @@ pub loop-run-preserved : goal.loop-run-preserved
 loop-run-preserved c = record {
   left = c.in-Some.ensures.left;
   counted =
-      counting_more (left_cells c.args.self.now c.args.left.now) c.args.counts.now _ _ _
+      counting_more (left_cells c.args.self.now c.args.left) c.args.counts.now _ _ _
       (first_run _ _ _ c.in-Some.ensures.first c.source.ensures.some) c.loop-run.counts c.add_run.new.self
       c.loop-run.invariant.counted
       (λ whole runs h. c.add_run.ensures.counted whole runs (run_in c.in-Some.run') c.source.ensures.own (sym c.len.ensures) h)
@@ -43,4 +43,4 @@ loop-run-preserved c = record {
 pub returns : goal.returns
 returns c =
     c.loop-run.invariant.counted.all c.loop-run.counts
-    (none_counted (left_cells c.args.self.now c.loop-run.left) (ap length (c.in_default.ensures.none refl)) c.loop-run.counts)
+    (none_counted (left_cells c.args.self.now c.loop-run.rest) (ap length (c.in_default.ensures.none refl)) c.loop-run.counts)

@@ -1,6 +1,6 @@
 use Rattle.std.proofs.Common.{◌≡◌, ◌+◌, ◌∙◌, ℕ, List, ap, arith, length, refl, subst, sym}
 use Rattle.source_merge.specs.Names.{Cell, ends_left}
-use Rattle.source_merge.specs.Split.{IsFirstRun, begun_after, begun_cells, cells_to, left_cells, split_places}
+use Rattle.source_merge.specs.Split.{IsFirstRun, begun_after, begun_cells, cells_to, data_places, left_cells, run_begun}
 use Rattle.source_merge.specs.declared.split.RunsLeft.{RunsLeft}
 use Rattle.source_merge.proofs.Cuts.{first_here, next_left, none_here, pair_below, runs_below}
 use Rattle.source_merge.proofs.split.SplitFrame.next_run.Goals as goal
@@ -29,8 +29,8 @@ loop-pair-preserved c =
     let i = c.loop-pair.invariant in
     let k = c.in-Some.pair in
     let next : RunsLeft = record { begun = c.begun_after-left.result; ends = c.next.new.self } in
-    let after : next.begun ≡ begun_after split.frame.now.bytes c.loop-pair.left.begun k = c.begun_after-left.ensures
-    ∙ ap (λ (m : ℕ). record (begun_after split.frame.now.bytes c.loop-pair.left.begun k) { from = m + 1 }) c.end_of-end.ensures.is in
+    let after : run_begun next.begun ≡ begun_after split.frame.now.bytes (run_begun c.loop-pair.left.begun) k = ap run_begun c.begun_after-left.ensures
+    ∙ ap (λ (m : ℕ). record (begun_after split.frame.now.bytes (run_begun c.loop-pair.left.begun) k) { from = m + 1 }) c.end_of-end.ensures.is in
     record {
       left = next_left split c.loop-pair.left next k i.left c.in-Some.ensures.some after;
       same =
@@ -48,17 +48,17 @@ returns-then-begun-end c =
     let k = c.in-Some.pair in
     let begun = c.loop-pair.left.begun in
     let next : RunsLeft = record { begun = c.begun_after-left.result; ends = c.next.new.self } in
-    let after : next.begun ≡ begun_after split.frame.now.bytes begun k = c.begun_after-left.ensures
-    ∙ ap (λ (m : ℕ). record (begun_after split.frame.now.bytes begun k) { from = m + 1 }) c.end_of-end.ensures.is in
+    let after : run_begun next.begun ≡ begun_after split.frame.now.bytes (run_begun begun) k = ap run_begun c.begun_after-left.ensures
+    ∙ ap (λ (m : ℕ). record (begun_after split.frame.now.bytes (run_begun begun) k) { from = m + 1 }) c.end_of-end.ensures.is in
     let e = c.end_of-end.ensures.is in
     let first = first_here split c.loop-pair.left next k i.left c.in-Some.ensures.some after
     (let t = c.if-begun-end.true in omega (arith, t, e)) in
     record {
       left = next_left split c.loop-pair.left next k i.left c.in-Some.ensures.some after;
       none = λ q. cc;
-      first = subst (λ (l : List Cell). IsFirstRun l (begun_cells (split_places split) split.bytes begun c.end_of-end.result)
+      first = subst (λ (l : List Cell). IsFirstRun l (begun_cells (data_places split.placed.now) split.placed.now.bytes (run_begun begun) c.end_of-end.result)
           (left_cells split next)) i.same
-          (subst (λ (m : ℕ). IsFirstRun (left_cells split c.loop-pair.left) (begun_cells (split_places split) split.bytes begun m)
+          (subst (λ (m : ℕ). IsFirstRun (left_cells split c.loop-pair.left) (begun_cells (data_places split.placed.now) split.placed.now.bytes (run_begun begun) m)
           (left_cells split next)) (sym e) first);
     }
 
@@ -67,6 +67,6 @@ returns c =
     let i = c.loop-pair.invariant in
     record {
       left = tt;
-      none = λ q. sym i.same ∙ ap (λ (l : List ℕ). cells_to c.args.self.now c.loop-pair.left.begun l) (c.in_default.ensures.none refl);
+      none = λ q. sym i.same ∙ ap (λ (l : List ℕ). cells_to c.args.self.now (run_begun c.loop-pair.left.begun) l) (c.in_default.ensures.none refl);
       first = tt;
     }

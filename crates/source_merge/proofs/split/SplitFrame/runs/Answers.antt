@@ -7,4 +7,4 @@ returns-clause-left c =
     record { pair = 0; last = omega arith; ends = c.requires.ends; run = omega arith; from = omega arith }
 
 pub returns-clause-all : goal.returns-clause-all
-returns-clause-all c = all_left c.args.self.now c.requires _ refl refl refl
+returns-clause-all c = all_left c.args.self.now c.requires _ c.number_of.ensures refl refl

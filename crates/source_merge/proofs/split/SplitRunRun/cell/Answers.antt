@@ -1,6 +1,6 @@
-use Rattle.std.proofs.Common.{◌<◌, ◌+◌, ◌-◌, ℕ, sym, ◌∙◌, ap, arith}
+use Rattle.std.proofs.Common.{◌<◌, ◌+◌, ◌-◌, ℕ, Option, sym, ◌∙◌, ap, arith}
 use Rattle.std.specs.Prelude.{slice_index}
-use Rattle.source_merge.specs.Names.{Cell}
+use Rattle.source_merge.specs.Names.{Cell, source_id}
 use Rattle.source_merge.proofs.Placing.{offset_is}
 use Rattle.source_merge.proofs.RunCells.{run_length, run_cell}
 use Rattle.source_merge.proofs.split.SplitRunRun.cell.Goals as goal
@@ -17,15 +17,16 @@ byte_at-requires c = (let l = run_length c.args.self.now in let i = c.requires i
 pub returns : goal.returns
 returns c =
     let run = c.args.self.now in
-    let frame = run.frame.now in
+    let placed = run.placed.now in
     let begun = run.begun in
     let i = c.args.index in
     let within = run.within in
     let l : i < run.end - begun.from = (let h = c.requires in let r = run_length run in omega (arith, h, r)) in
-    let long = frame.places in
-    let own : ℕ → ℕ → Cell = λ at byte. record { at = at; id = begun.source; run = begun.run; byte = byte } in
-    ap (λ (x : ℕ). own x c.byte_at.result) c.offset_of.ensures
-    ∙ ap (λ (x : ℕ). own (frame.frame.now.at + slice_index frame.behind (begun.from + i)) x) c.byte_at.ensures
-    ∙ ap (λ (x : ℕ). own x (slice_index frame.bytes (begun.from + i)))
-    (sym (offset_is frame.frame.now.at frame.behind (begun.from + i) (omega (arith, l, within, long))))
+    let long = placed.places in
+    let own : ℕ → ℕ → Cell = λ at byte. record { at = at; id = source_id begun.number; run = begun.run; byte = byte } in
+    ap (λ (x : Option ℕ). record { at = c.offset_of.result; id = x; run = begun.run; byte = c.byte_at.result }) c.new.ensures
+    ∙ ap (λ (x : ℕ). own x c.byte_at.result) c.offset_of.ensures
+    ∙ ap (λ (x : ℕ). own (placed.at + slice_index placed.behind (begun.from + i)) x) c.byte_at.ensures
+    ∙ ap (λ (x : ℕ). own x (slice_index placed.bytes (begun.from + i)))
+    (sym (offset_is placed.at placed.behind (begun.from + i) (omega (arith, l, within, long))))
     ∙ sym (run_cell run i _ l)
