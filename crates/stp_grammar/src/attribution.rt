@@ -247,8 +247,8 @@ impl Attribution {
         }
     }
 
-    /// Takes the next packet, which is of the row of this number or ASYNC, and answers what it says: that has the item which
-    /// `take` answers to the packet. The size and the word are its timestamp's, of no account where it has none.
+    /// Takes the next packet, which is of the row of this number or ASYNC, and answers what it says: that has the item
+    /// which `take` answers to the packet. The size and the word are its timestamp's, of no account where it has none.
     #[inline(always)]
     pub fn say(&mut self, number: u8, payload: u64, size: u8, word: u64) -> Said
         requires number { number < 36 }
