@@ -1,19 +1,21 @@
 //! What takes the events of a report as they come.
 
 ghost use Rattle.std.specs.Prelude.{◌≡◌, ◌↔◌, ◌+◌, ◌<◌, ◌≤◌, ◌∷◌, [], ℕ, List, Some, length, IsTrue, ⊤};
-ghost use Rattle.source_merge.specs.Names.{Event, Packet, SourceKind, EventFits, PacketFits, ToldFits, told_by};
-ghost use Rattle.source_machine.specs.declared.packets.Told.TheVariants.{Itm as SaysItm, Stp as SaysStp};
+ghost use Rattle.std.specs.Prelude.{true};
+ghost use Rattle.std.specs.Option.{is_some};
+ghost use Rattle.source_merge.specs.Names.{Event, Packet, SourceKind, EventFits, PacketFits};
+ghost use Rattle.source_events.specs.declared.plan.SourceKind.TheVariants.{Itm as ItmKind, Stp as StpKind};
 ghost use Rattle.source_events.specs.declared.packet.Packet.TheVariants.{Itm, Stp};
-ghost use Rattle.itm_grammar.specs.declared.packet.ItmPacket.{ItmPacket};
-ghost use Rattle.stp_grammar.specs.Said.{said_item};
-ghost use Rattle.stp_grammar.specs.declared.said.Said.{Said};
+ghost use Rattle.itm_grammar.specs.Proper.{IsProper};
+ghost use Rattle.stp_grammar.specs.Said.{said_item, IsProperSaid};
 ghost use Rattle.stp_grammar.specs.declared.item.StpItem.{StpItem};
 ghost use Rattle.source_merge.specs.Giving.{AddsUp};
 ghost use Rattle.source_merge.specs.Receiver.{packet_event, raw_event, trigger_event};
 
 use crate::slot::{EVENTS, Events, event_at};
+use itm_grammar::packet::ItmPacket;
 use source_events::{Event, Packet, RunBytes, SourceKind, What};
-use source_machine::Told;
+use stp_grammar::said::Said;
 use trace_values::SourceId;
 
 /// What takes the events of a report, one after the other.
@@ -44,17 +46,31 @@ pub trait Receiver {
     fn takes_told(&self, source: SourceId, kind: SourceKind) -> bool
         ensures { IsTrue result ↔ takes self.now source kind };
 
-    /// Takes the next event, which is what a packet of this source says. It ends in this half of the byte at this
-    /// offset.
+    /// Takes the next event, which is this packet of this ITM source. It ends in this half of the byte at this offset.
     ///
     /// It is what `give` makes of that event, which need not be in memory; so are those below.
-    fn give_told(&mut self, to: &mut Self::To, at: u64, half: u8, source: SourceId, told: Told)
-        requires fits { ToldFits told }
-        requires own { takes self.old source (told_by told) }
+    fn give_itm(
+        &mut self,
+        to: &mut Self::To,
+        at: u64,
+        half: u8,
+        source: SourceId,
+        packet: ItmPacket,
+    )
+        requires proper { IsProper packet }
+        requires own { takes self.old source ItmKind }
         requires room { 0 < room (self.old, to.old) }
-        ensures itm { (packet : ItmPacket) → told ≡ SaysItm packet →
-            gets (self.old, to.old) (packet_event source at half (Itm packet) ∷ []) (self.new, to.new) }
-        ensures stp { (said : Said) (item : StpItem) → told ≡ SaysStp said → said_item said ≡ Some item →
+        ensures gets { gets (self.old, to.old) (packet_event source at half (Itm packet) ∷ []) (self.new, to.new) }
+        ensures room { room (self.old, to.old) ≤ room (self.new, to.new) + 1 };
+
+    /// Takes the next event, which is the item of what a packet of this STP source says. It ends in this half of the
+    /// byte at this offset.
+    fn give_said(&mut self, to: &mut Self::To, at: u64, half: u8, source: SourceId, said: Said)
+        requires proper { IsProperSaid said }
+        requires some { is_some (said_item said) ≡ true }
+        requires own { takes self.old source StpKind }
+        requires room { 0 < room (self.old, to.old) }
+        ensures gets { (item : StpItem) → said_item said ≡ Some item →
             gets (self.old, to.old) (packet_event source at half (Stp item) ∷ []) (self.new, to.new) }
         ensures room { room (self.old, to.old) ≤ room (self.new, to.new) + 1 };
 
@@ -111,16 +127,14 @@ impl Receiver for Events {
     }
 
     #[inline(always)]
-    fn give_told(&mut self, _to: &mut (), at: u64, half: u8, source: SourceId, told: Told) {
-        match told {
-            Told::Itm(packet) => {
-                self.push(event_at(source, at, half, What::Packet(Packet::Itm(packet))));
-            }
-            Told::Stp(said) => {
-                if let Some(item) = said.item() {
-                    self.push(event_at(source, at, half, What::Packet(Packet::Stp(item))));
-                }
-            }
+    fn give_itm(&mut self, _to: &mut (), at: u64, half: u8, source: SourceId, packet: ItmPacket) {
+        self.push(event_at(source, at, half, What::Packet(Packet::Itm(packet))));
+    }
+
+    #[inline(always)]
+    fn give_said(&mut self, _to: &mut (), at: u64, half: u8, source: SourceId, said: Said) {
+        if let Some(item) = said.item() {
+            self.push(event_at(source, at, half, What::Packet(Packet::Stp(item))));
         }
     }
 

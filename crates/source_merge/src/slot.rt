@@ -14,8 +14,10 @@ use crate::counts::PerSource;
 use crate::receiver::Receiver;
 use crate::run::Run;
 use arrayvec::ArrayVec;
+use itm_codec::ItmDecoder;
 use source_events::{Event, Packet, SourceKind, What};
 use source_machine::{Finds, SourceMachine, Told};
+use stp_codec::StpDecoder;
 use stp_grammar::packet::Order;
 use trace_values::{Fault, Found, PART_ROOM, PacketsMode, SourceId, Step, TakenAtOnce};
 
@@ -131,24 +133,56 @@ fn give_packet<V: Receiver>(
     }
 }
 
-/// Gives what a packet says that was taken up to the byte at this offset, where it says something.
-#[inline(always)]
-fn give_told<V: Receiver>(
-    items: &mut PerSource,
-    out: &mut V,
-    to: &mut V::To,
-    source: SourceId,
-    at: u64,
-    taken: TakenAtOnce<Told>,
-)
-    requires fits { IfSome taken.item (λ t. ToldFits t × V.takes out.old source (told_by t)) }
-    requires room { HasRoom V.room 1 (items.old, (out.old, to.old)) }
-    ensures { Given V.gets V.room 1 (items.old, (out.old, to.old)) (items.new, (out.new, to.new))
-        (told (Some source) (lifted (given_after at (told_in taken.half taken.item)))) }
-{
-    if let Some(said) = taken.item {
-        items.add_event(source);
-        out.give_told(to, at, taken.half, source, said);
+/// A machine whose packets go to what takes events as what they say, each by the call of its protocol. Which call it
+/// is hangs on the machine's type alone, so that the loop over its packets has no other.
+pub trait GivesTold: Finds {
+    /// Gives what a packet says that was taken up to the byte at this offset, where it says something.
+    fn give_told<V: Receiver>(
+        items: &mut PerSource,
+        out: &mut V,
+        to: &mut V::To,
+        source: SourceId,
+        at: u64,
+        taken: TakenAtOnce<Told>,
+    )
+        requires fits { IfSome taken.item (λ t. ToldFits t × (told_by t ≡ Self.kind)) }
+        requires own { V.takes out.old source Self.kind }
+        requires room { HasRoom V.room 1 (items.old, (out.old, to.old)) }
+        ensures { Given V.gets V.room 1 (items.old, (out.old, to.old)) (items.new, (out.new, to.new))
+            (told (Some source) (lifted (given_after at (told_in taken.half taken.item)))) };
+}
+
+impl GivesTold for ItmDecoder {
+    #[inline(always)]
+    fn give_told<V: Receiver>(
+        items: &mut PerSource,
+        out: &mut V,
+        to: &mut V::To,
+        source: SourceId,
+        at: u64,
+        taken: TakenAtOnce<Told>,
+    ) {
+        if let Some(Told::Itm(packet)) = taken.item {
+            items.add_event(source);
+            out.give_itm(to, at, taken.half, source, packet);
+        }
+    }
+}
+
+impl GivesTold for StpDecoder {
+    #[inline(always)]
+    fn give_told<V: Receiver>(
+        items: &mut PerSource,
+        out: &mut V,
+        to: &mut V::To,
+        source: SourceId,
+        at: u64,
+        taken: TakenAtOnce<Told>,
+    ) {
+        if let Some(Told::Stp(said)) = taken.item {
+            items.add_event(source);
+            out.give_said(to, at, taken.half, source, said);
+        }
     }
 }
 
@@ -238,7 +272,7 @@ fn feed_slowly<M: Finds, R: Run, V: Receiver>(
 /// Feeds a run of this source to its machine, up to a fault, and gives its events. It takes a packet at once, also one
 /// that runs before it began, and the part of one that the next run ends.
 #[inline(never)]
-pub fn feed_run<M: Finds, R: Run, V: Receiver>(
+pub fn feed_run<M: GivesTold, R: Run, V: Receiver>(
     machine: &mut M,
     source: SourceId,
     run: &R,
@@ -275,7 +309,7 @@ pub fn feed_run<M: Finds, R: Run, V: Receiver>(
             Found::Ends(parts) => {
                 let taken = machine.end(&ahead[done..], parts);
                 done += taken.bytes;
-                give_told(items, out, to, source, run.cell(done - 1).at, taken);
+                M::give_told(items, out, to, source, run.cell(done - 1).at, taken);
             }
             Found::Waits => done = run.len(),
             Found::Unknown => {

@@ -143,6 +143,29 @@ impl Text for SaidLine<'_> {
     }
 }
 
+/// Puts the line of what a packet says that has an item and is not put by its row, as that of the item. It is kept out
+/// of line, so that an item is in memory only here.
+#[inline(never)]
+fn put_item_line(
+    outlet: &mut Outlet,
+    digits: &mut Digits,
+    at: u64,
+    half: u8,
+    id: SourceId,
+    said: Said,
+)
+    requires proper { IsProperSaid said }
+    requires some { is_some (said_item said) ≡ true }
+    requires room { length outlet.old + TEXT_ROOM ≤ OUTLET_ROOM }
+    ensures line { (item : StpItem) → said_item said ≡ Some item →
+        outlet.new ≡ outlet.old ++ event_line true (stp_event at half id item) NoRemark }
+    ensures bound { length outlet.new ≤ length outlet.old + EVENT_ROOM }
+{
+    if let Some(item) = said.item() {
+        put_stp_line(outlet, digits, at, half, id, item);
+    }
+}
+
 /// Puts the line of what a packet of this STP source says, which has an item, and ends in this half of the byte at
 /// this offset. It is what `print` puts for the event of that item, neither of which is made where the line is put by
 /// its row. The digits of the offset and the text of a place are kept for the next line.
@@ -163,9 +186,7 @@ pub fn put_said_line(
     ensures bound { length outlet.new ≤ length outlet.old + EVENT_ROOM }
 {
     if !is_written(said.number) {
-        if let Some(item) = said.item() {
-            put_stp_line(outlet, digits, at, half, id, item);
-        }
+        put_item_line(outlet, digits, at, half, id, said);
         return;
     }
     few_digits(at);
