@@ -19,3 +19,4 @@ pub mod PartsPieces
 pub mod Pairs
 pub mod Afterwards
 pub mod Skipping
+pub mod Running

@@ -23,11 +23,10 @@ use Rattle.stp_codec.specs.Decoder.{waiting_in, partial_of, begun_of, BegunAt, I
 use Rattle.stp_codec.specs.Decoder.{ReadsAt, order_of, is_hunter, held_of, skipped_by, read_of, is_live, has_locked}
 use Rattle.stp_codec.specs.Decoder.{Finishes, IsReady, Settles, HoldsAhead, Copies, Idles, TakesPart, Finds}
 use Rattle.stp_codec.proofs.Taking.{At}
-use Rattle.stp_codec.proofs.Between.{length-nibbles}
 use Rattle.stp_codec.proofs.PacketPieces.{take_nibbles}
 use Rattle.stp_codec.proofs.PartPieces.{inside_count, inside_passes}
-use Rattle.stp_codec.proofs.Unread.{nibbles_append, reached_on, fronts_on, reached_none, fewer_front, some_behind}
-use Rattle.stp_codec.proofs.Unread.{ends_behind}
+use Rattle.stp_codec.proofs.Unread.{nibbles_append, reached_on, fronts_on, fronts_behind, reached_none, some_behind}
+use Rattle.stp_codec.proofs.Unread.{ends_behind, take_fewer}
 
 -- the same in all parts
 pub stands_as : (d e : StpDecoder) (s t : Partial) → e.order ≡ d.order → e.mode ≡ d.mode → e.live ≡ d.live → e.attribution ≡ d.attribution → t ≡ s →
@@ -191,11 +190,16 @@ pub copies_finds : (d e f : StpDecoder) (ahead : List ℕ) (count : ℕ) (found 
 copies_finds d e f ahead count found c h = idle_finds d e f (copies_same d e ahead c) (copies_idle d e ahead c) ahead count found h
 
 -- a packet was found, and nothing was taken
-pub finds_packet : (d : StpDecoder) (ahead : List ℕ) (count : ℕ) (x : PacketParts) → x.number < 35 → x.nibbles ≤ 2 * count → IsReady d → Finishes d ahead x.nibbles (packet_of x) → Finds d d ahead count (EndsIn x)
-finds_packet d ahead count x number within r p = (p.some, within, record { order = r.order; number = number; packet = p }, (λ u h. h, refl, refl))
+pub finds_packet : (d : StpDecoder) (ahead : List ℕ) (count : ℕ) (x : PacketParts) → x.number < 36 → (x.number ≡ 35 → x.payload ≡ 0) → x.nibbles ≤ 2 * count → IsReady d → Finishes d ahead x.nibbles (packet_of x) → Finds d d ahead count (EndsIn x)
+finds_packet d ahead count x number none within r p = (p.some, within, record { order = r.order; number = number; none = none; packet = p }, (λ u h. h, refl, refl))
 
 pub same_order : (d e : StpDecoder) → (order_of e ≡ order_of d) × (is_hunter e ≡ is_hunter d) → (P : Order → Bool → Type 0) → P (order_of e) (is_hunter e) → P (order_of d) (is_hunter d)
 same_order d e same P h = subst (λ (o : Order). P o (is_hunter d)) same.0 (subst (λ (b : Bool). P (order_of e) b) same.1 h)
+
+-- the nibbles of the first bytes
+first_nibbles : (count : ℕ) (bytes : List ℕ) → nibbles_in (take count bytes) ≡ between (nibbles_in bytes) 0 (2 * count)
+first_nibbles count bytes =
+    take_nibbles count bytes ∙ ap (λ (n : ℕ). take n (nibbles_in bytes)) (let z : 2 * count ≡ 2 * count - 0 = omega arith in z)
 
 -- a packet that can be read at once
 module _ (d : StpDecoder) (r : IsReady d) where
@@ -214,12 +218,30 @@ module _ (d : StpDecoder) (r : IsReady d) where
     pub fresh_finishes : 0 < n → n ≤ 2 * length ahead → Ends Msn (Go (left_by Msn d.first)) (between (nibbles_in ahead) 0 n) v → IsProper v → Finishes d ahead n v
     fresh_finishes some within k proper = record { locked = r.locked; some = some; within = within; whole = fresh_ends k; proper = proper }
 
-    pub fresh_fronts : (count : ℕ) → 2 * count < n → count < length ahead → Ends Msn (Go (left_by Msn d.first)) (between (nibbles_in ahead) 0 n) v →
-        Fronts (order_of d) (partial_of d) (nibbles_in (take count ahead))
-    fresh_fronts count h l k =
-        let m = length-nibbles ahead in
-        subst (λ (x : List ℕ). Fronts (order_of d) (partial_of d) x) (sym (take_nibbles count ahead))
-        (fewer_front d.order (partial_of d) (nibbles_in ahead) (2 * count) n v h (omega (arith, l, m)) (fresh_ends k))
+  -- and those of these bytes are within it
+  parts_fronts : (w : List ℕ) → Fronts Msn (left_by Msn d.first) w → Fronts d.order (begun_of d) w
+  parts_fronts w k =
+      subst (λ (t : Partial). Fronts d.order t w) (sym (begun_first d.order d.first d.partial r.first))
+      (subst (λ (o : Order). Fronts o (left_by o d.first) w) (sym r.order) k)
+
+  pub fresh_fronts : d.waiting ≡ 0 → (ahead : List ℕ) (count : ℕ) → Fronts Msn (left_by Msn d.first) (between (nibbles_in ahead) 0 (2 * count)) →
+      Fronts (order_of d) (partial_of d) (nibbles_in (take count ahead))
+  fresh_fronts e ahead count k =
+      subst (λ (t : Partial). Fronts d.order t (nibbles_in (take count ahead))) (sym (settled d e))
+      (parts_fronts (nibbles_in (take count ahead))
+      (subst (λ (x : List ℕ). Fronts Msn (left_by Msn d.first) x) (sym (first_nibbles count ahead)) k))
+
+  pub held_fronts : (ahead : List ℕ) (count : ℕ) → HoldsAhead d ahead count → d.waiting + count ≤ 24 →
+      Fronts Msn (left_by Msn d.first) (between (nibbles_in (take 24 d.held)) 0 (2 * d.waiting + 2 * count)) →
+      Fronts (order_of d) (partial_of d) (nibbles_in (take count ahead))
+  held_fronts ahead count h few k =
+      let all : between (nibbles_in (take 24 d.held)) 0 (2 * d.waiting + 2 * count) ≡ nibbles_in (waiting_in d) ++ nibbles_in (take count ahead) =
+      ap (between (nibbles_in (take 24 d.held)) 0) (let q : 2 * d.waiting + 2 * count ≡ 2 * (d.waiting + count) = omega arith in q)
+      ∙ sym (first_nibbles (d.waiting + count) (take 24 d.held)) ∙ ap nibbles_in (take_fewer (d.waiting + count) 24 d.held few ∙ h)
+      ∙ nibbles_append (waiting_in d) (take count ahead) in
+      fronts_behind d.order (begun_of d) (nibbles_in (waiting_in d)) (nibbles_in (take count ahead)) (fronts_of d)
+      (parts_fronts (nibbles_in (waiting_in d) ++ nibbles_in (take count ahead))
+      (subst (λ (x : List ℕ). Fronts Msn (left_by Msn d.first) x) all k))
 
   -- where these bytes are behind those that wait
   module _ (ahead : List ℕ) (h : (more : ℕ) → more ≤ WINDOW → HoldsAhead d ahead more) (n : ℕ) (v : StpPacket) (most : n ≤ 48)
@@ -249,12 +271,6 @@ module _ (d : StpDecoder) (r : IsReady d) where
     held_finishes within proper =
         let s = held_some in
         record { locked = r.locked; some = omega (arith, s); within = within; whole = held_ends; proper = proper }
-
-    pub held_fronts : (count : ℕ) → 2 * d.waiting + 2 * count < n → count < length ahead → Fronts (order_of d) (partial_of d) (nibbles_in (take count ahead))
-    held_fronts count g l =
-        let m = length-nibbles ahead in
-        subst (λ (x : List ℕ). Fronts (order_of d) (partial_of d) x) (sym (take_nibbles count ahead))
-        (fewer_front d.order (partial_of d) (nibbles_in ahead) (2 * count) (n - 2 * d.waiting) v (omega (arith, g)) (omega (arith, l, m)) held_ends)
 
 -- bytes that wait from now on
 module _ (d : StpDecoder) (ahead : List ℕ) (count : ℕ) (held : HoldsAhead d ahead count) (fronts : Fronts (order_of d) (partial_of d) (nibbles_in (take count ahead))) where

@@ -79,6 +79,10 @@ module _ (order : Order) where
   pub fronts_on : (s : Partial) (a b : List ℕ) → Fronts order s a → Fronts order (reached order s a) b → Fronts order s (a ++ b)
   fronts_on s a b f g = front_on s a b f ∙ g ∙ ap (λ (t : Partial). Within t) (sym (reached_on s a b f))
 
+  -- and the other way
+  pub fronts_behind : (s : Partial) (a b : List ℕ) → Fronts order s a → Fronts order s (a ++ b) → Fronts order (reached order s a) b
+  fronts_behind s a b f g = sym (front_on s a b f) ∙ g ∙ ap (λ (t : Partial). Within t) (reached_on s a b f)
+
   pub reached_none : (s : Partial) (held : List ℕ) (n : ℕ) → n ≡ 0 → reached order s (nibbles_in (take n held)) ≡ s
   reached_none s held n e = ap (λ (k : ℕ). reached order s (nibbles_in (take k held))) e
 

@@ -106,7 +106,8 @@ pub record Finishes (decoder : StpDecoder) (bytes : List ℕ) (nibbles : ℕ) (p
 -- the packet of these parts is so finished, of which most significant nibbles come first
 pub record FinishesParts (decoder : StpDecoder) (bytes : List ℕ) (parts : PacketParts) : Type 0 where
   pub order : decoder.order ≡ Msn
-  pub number : parts.number < 35
+  pub number : parts.number < 36
+  pub none : parts.number ≡ 35 → parts.payload ≡ 0
   pub packet : Finishes decoder bytes parts.nibbles (packet_of parts)
 
 -- No bytes wait, and this is the one nibble of the unfinished packet, or it is 0 and there is none.

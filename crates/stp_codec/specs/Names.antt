@@ -5,7 +5,7 @@ pub use Rattle.stp_grammar.specs.Opcodes.{Opening, line_of, row_at}
 pub use Rattle.stp_grammar.specs.Proper.{IsProper, IsProperItem}
 pub use Rattle.stp_grammar.specs.Rule.{after_payload, begin, count_of, first_opening, is_sound, number_with, opened}
 pub use Rattle.stp_grammar.specs.Rule.{rule, second_opening, size_with, third_opening}
-pub use Rattle.stp_grammar.specs.Said.{IsProperSaid, packet_at, said_item}
+pub use Rattle.stp_grammar.specs.Said.{IsProperSaid, packet_at, row_packet, said_item}
 pub use Rattle.stp_grammar.specs.Spelling.{Spells, number, why}
 pub use Rattle.stp_grammar.specs.declared.attribution.Attribution.{Attribution}
 pub use Rattle.stp_grammar.specs.declared.item.StpItem.{StpItem}

@@ -12,7 +12,8 @@ ghost use Rattle.trace_values.specs.declared.taking.Found.TheVariants.{Ends, Wai
 ghost use Rattle.stp_codec.specs.declared.flat.PacketParts.{PacketParts};
 
 use crate::decoder::{MANY, StpDecoder};
-use crate::flat::{PacketParts, WINDOW, parts_from_first};
+use crate::flat::{PacketParts, WINDOW};
+use crate::run::parts_in;
 use trace_values::Found;
 
 /// The first of these bytes, as many as the decoder copies. How many they are is known where the code is built, so that
@@ -73,7 +74,7 @@ impl StpDecoder {
         ensures stays { Stays self.old self.new }
         ensures found { Finds self.old self.new ahead.now count result }
     {
-        let Some(parts) = parts_from_first(self.first, ahead) else {
+        let Some(parts) = parts_in(self.first, ahead, 2 * count) else {
             return Found::Unknown;
         };
         if parts.nibbles <= 2 * count {
@@ -96,10 +97,10 @@ impl StpDecoder {
         ensures stays { Stays self.old self.new }
         ensures found { Finds self.old self.new ahead.now count result }
     {
-        let Some(parts) = parts_from_first(self.first, &self.held[..WINDOW]) else {
+        let before = 2 * self.waiting;
+        let Some(parts) = parts_in(self.first, &self.held[..WINDOW], before + 2 * count) else {
             return Found::Unknown;
         };
-        let before = 2 * self.waiting;
         if parts.nibbles <= before + 2 * count {
             return Found::Ends(parts.after(before));
         }

@@ -8,7 +8,7 @@ ghost use Rattle.std.specs.Prelude.{IfSome};
 ghost use Rattle.std.specs.Prelude.{if◌then◌else◌};
 ghost use Rattle.stp_codec.specs.Names.{Go, StpPacket, Msn, Start, Size, line_of, row_at, IsProper, rule, begin};
 ghost use Rattle.stp_codec.specs.Wholes.{nibbles_in, between, Ends, left_by};
-ghost use Rattle.stp_codec.specs.Parts.{packet_of};
+ghost use Rattle.stp_codec.specs.Parts.{row_packet_of};
 ghost use Rattle.stp_codec.specs.declared.flat.TheConstants.{WINDOW};
 
 use crate::numbers::{nibble_of, number_at_once};
@@ -24,7 +24,7 @@ pub const WINDOW: usize = 24;
 pub struct PacketParts {
     /// How many nibbles it takes of the bytes in which it was found.
     pub nibbles: usize,
-    /// The number of its row in the table of opcodes, 0 to 34.
+    /// The number of its row in the table of opcodes, 0 to 34, or `ASYNC`.
     pub number: u8,
     /// The number that its payload makes, 0 where it has none.
     pub payload: u64,
@@ -61,8 +61,8 @@ fn parts_from_size(number: u8, payload: u64, bytes: &[u8], start: usize) -> Opti
     ensures end { IfSome result (λ x. (start < x.nibbles) × (x.nibbles ≤ 2 * length bytes.now)) }
     ensures number { IfSome result (λ x. x.number < 35) }
     ensures whole { IfSome result (λ x. Ends Msn (Go (Size (row_at number) payload))
-        (between (nibbles_in bytes.now) start x.nibbles) (packet_of x)) }
-    ensures proper { IfSome result (λ x. IsProper (packet_of x)) }
+        (between (nibbles_in bytes.now) start x.nibbles) (row_packet_of x)) }
+    ensures proper { IfSome result (λ x. IsProper (row_packet_of x)) }
 {
     let size = nibble_of(bytes, start);
     if size == 15 {
@@ -88,8 +88,8 @@ fn parts_from_opcode(number: u8, bytes: &[u8], start: usize) -> Option<PacketPar
     ensures end { IfSome result (λ x. (start ≤ x.nibbles) × (x.nibbles ≤ 2 * length bytes.now)) }
     ensures number { IfSome result (λ x. x.number < 35) }
     ensures whole { IfSome result (λ x. Ends Msn (begin (row_at number))
-        (between (nibbles_in bytes.now) start x.nibbles) (packet_of x)) }
-    ensures proper { IfSome result (λ x. IsProper (packet_of x)) }
+        (between (nibbles_in bytes.now) start x.nibbles) (row_packet_of x)) }
+    ensures proper { IfSome result (λ x. IsProper (row_packet_of x)) }
 {
     let most = payload_at(number);
     let payload = number_at_once(bytes, start, most);
@@ -160,8 +160,8 @@ pub fn parts_from_first(first: u8, bytes: &[u8]) -> Option<PacketParts>
     ensures end { IfSome result (λ x. (0 < x.nibbles) × (x.nibbles ≤ 2 * length bytes.now)) }
     ensures number { IfSome result (λ x. x.number < 35) }
     ensures whole { IfSome result (λ x.
-        Ends Msn (Go (left_by Msn first)) (between (nibbles_in bytes.now) 0 x.nibbles) (packet_of x)) }
-    ensures proper { IfSome result (λ x. IsProper (packet_of x)) }
+        Ends Msn (Go (left_by Msn first)) (between (nibbles_in bytes.now) 0 x.nibbles) (row_packet_of x)) }
+    ensures proper { IfSome result (λ x. IsProper (row_packet_of x)) }
 {
     let (number, nibbles) = opcode_in(front_of(first, bytes));
     if number == NONE {

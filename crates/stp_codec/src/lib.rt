@@ -10,6 +10,7 @@ mod hunt;
 pub mod laws;
 mod nibbles;
 mod numbers;
+mod run;
 mod take;
 mod waiting;
 

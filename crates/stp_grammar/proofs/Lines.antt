@@ -35,10 +35,10 @@ pub payload_few : (n : ℕ) → n < 35 → payload n ≤ 16
 unfolding under
 payload_few n l = leb-true _ _ (below (λ k. nat_le (payload k) 16) 35 n l refl)
 
-pub stamped_is : (n : ℕ) → n < 35 → slice_index_or STAMPS.now n false ≡ (line_of (row_at n)).stamped
+pub stamped_is : (n : ℕ) → n < 36 → slice_index_or STAMPS.now n false ≡ (line_of (row_at n)).stamped
 unfolding under same
 stamped_is n l =
-    is_same _ _ (below (λ k. same (slice_index_or STAMPS.now k false) (line_of (row_at k)).stamped) 35 n l refl)
+    is_same _ _ (below (λ k. same (slice_index_or STAMPS.now k false) (line_of (row_at k)).stamped) 36 n l refl)
 
 pub nibbles_are : (n : ℕ) → n < 35 → nibbles n ≡ length (line_of (row_at n)).opcode
 unfolding under

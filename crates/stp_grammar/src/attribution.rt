@@ -215,10 +215,10 @@ impl Attribution {
         }
     }
 
-    /// Keeps what a packet of the row of this number tells, which has no timestamp.
+    /// Keeps what a packet of the row of this number tells, which has no timestamp. ASYNC tells nothing, as NULL.
     #[inline(always)]
     fn note_at(&mut self, number: u8, payload: u64)
-        requires number { number < 35 }
+        requires number { number < 36 }
         requires fits { payload < 16 ^ (line_of (row_at number)).payload }
         ensures { Keeps self.old self.new (Plain (row_at number) payload) }
     {
@@ -230,8 +230,9 @@ impl Attribution {
     /// Keeps what a packet of the row of this number tells, and answers its timestamp as an item has it.
     #[inline(always)]
     fn stamp_at(&mut self, number: u8, payload: u64, size: u8, word: u64) -> Stamp
-        requires number { number < 35 }
+        requires number { number < 36 }
         requires proper { IsProper (packet_at number payload size word) }
+        requires none { number ≡ 35 → payload ≡ 0 }
         ensures list { (packets : List StpPacket) → Stands self.old packets →
             Stands self.new (packets ++ packet_at number payload size word ∷ []) }
         ensures stamp { result ≡ (if (line_of (row_at number)).stamped
@@ -246,12 +247,13 @@ impl Attribution {
         }
     }
 
-    /// Takes the next packet, which is of the row of this number, and answers what it says: that has the item which
-    /// `take` answers to the packet. The size and the word are its timestamp's, of no account where it has none.
+    /// Takes the next packet, which is of the row of this number or ASYNC, and answers what it says: that has the item
+    /// which `take` answers to the packet. The size and the word are its timestamp's, of no account where it has none.
     #[inline(always)]
     pub fn say(&mut self, number: u8, payload: u64, size: u8, word: u64) -> Said
-        requires number { number < 35 }
+        requires number { number < 36 }
         requires proper { IsProper (packet_at number payload size word) }
+        requires none { number ≡ 35 → payload ≡ 0 }
         ensures list { (packets : List StpPacket) → Stands self.old packets →
             Stands self.new (packets ++ packet_at number payload size word ∷ []) }
         ensures item { (packets : List StpPacket) → Stands self.old packets →

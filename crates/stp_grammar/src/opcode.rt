@@ -20,9 +20,9 @@ macro_rules! datum {
 }
 
 /// The table, with the standard's names beside it: what `of!` takes from each line, in their order. A line is a row,
-/// the nibbles of its opcode, how many its payload has, and whether a timestamp follows.
+/// the nibbles of its opcode, how many its payload has, and whether a timestamp follows. After the lines these are.
 macro_rules! each_line {
-    ($of:ident) => {
+    ($of:ident $(, $after:literal)*) => {
         &[
             $of!(Row::Null, [0x0], 0, false), // NULL
             $of!(Row::Master8, [0x1], 2, false), // M8
@@ -59,6 +59,7 @@ macro_rules! each_line {
             $of!(Row::Trigger { stamped: true }, [0xF, 0x0, 0x7], 2, true), // TRIG_TS
             $of!(Row::Frequency { stamped: false }, [0xF, 0x0, 0x8], 8, false), // FREQ
             $of!(Row::Frequency { stamped: true }, [0xF, 0x0, 0x9], 8, true), // FREQ_TS
+            $($after,)*
         ]
     };
 }
@@ -113,10 +114,10 @@ const OPCODES: &[[u8; 3]] = each_line!(opcode);
 
 const NIBBLES: &[u8] = each_line!(nibbles);
 
-/// How many nibbles the payloads have, and whether a timestamp follows.
+/// How many nibbles the payloads have, and whether a timestamp follows: none does where an ASYNC is in a row's place.
 const PAYLOADS: &[u8] = each_line!(payload);
 
-const STAMPS: &[bool] = each_line!(stamped);
+const STAMPS: &[bool] = each_line!(stamped, false);
 
 /// The row of this number, 0 to 34.
 #[inline(always)]
@@ -139,10 +140,10 @@ pub fn payload_at(number: u8) -> u8
     payloads[number as usize]
 }
 
-/// Whether a timestamp follows the payload of the row of this number.
+/// Whether a timestamp follows the payload of the row of this number. None is after an ASYNC, whose number is 35.
 #[inline(always)]
 pub fn stamped_at(number: u8) -> bool
-    requires { number < 35 }
+    requires { number < 36 }
     ensures { result ≡ (line_of (row_at number)).stamped }
 {
     let stamps = STAMPS;

@@ -10,11 +10,14 @@ use crate::attribution::item_with;
 use crate::item::{Place, Stamp, StpItem};
 use crate::opcode::row_at;
 
+/// In the place of a row's number: that of ASYNC, which has no row.
+pub const ASYNC: u8 = 35;
+
 /// What a packet says, with what the packets before it make of it. An item is made of it only where one is asked for:
 /// this has the same parts for all of them.
 #[derive(Clone, Copy, Drop)]
 pub struct Said {
-    /// The number of its row in the table of opcodes, 0 to 34.
+    /// The number of its row in the table of opcodes, 0 to 34, or `ASYNC`.
     pub number: u8,
     /// The master and the channel in force with it.
     pub place: Place,
@@ -39,10 +42,10 @@ fn bit_of(bits: u64, number: u8) -> bool
     (bits >> number) % 2 == 1
 }
 
-/// The packets of the row of this number tell a master, a channel or a version.
+/// The packets of the row of this number tell a master, a channel or a version. ASYNC does not.
 #[inline(always)]
 pub(crate) fn tells_at(number: u8) -> bool
-    requires { number < 35 }
+    requires { number < 36 }
     ensures { result ≡ tells (row_at number) }
 {
     bit_of(TELLING, number)
@@ -52,7 +55,7 @@ impl Said {
     /// It has an item.
     #[inline(always)]
     pub fn has_item(&self) -> bool
-        requires { self.now.number < 35 }
+        requires { self.now.number < 36 }
         ensures { result ≡ is_some (said_item self.now) }
     {
         !bit_of(SILENT, self.number)
@@ -66,6 +69,10 @@ impl Said {
         ensures item { result ≡ said_item self.now }
         ensures fits { ForSome result (λ item. IsProperItem item) }
     {
-        item_with(self.place, self.stamp, row_at(self.number), self.payload)
+        if self.number == ASYNC {
+            Some(StpItem::Async)
+        } else {
+            item_with(self.place, self.stamp, row_at(self.number), self.payload)
+        }
     }
 }

@@ -1,6 +1,7 @@
 -- The texts of what packets say, by their rows.
-use Rattle.std.proofs.Common.{◌≡◌, ℕ, ◌/◌, ◌^◌, ◌<◌, ◌≤◌, List, [], ◌∷◌, ◌++◌, length, true, false, Option, refl, sym, ◌∙◌, ap, append_assoc, append-nil, arith, rules}
-use Rattle.std.specs.Prelude.{codes, decimal, None, Some}
+use Rattle.std.proofs.Common.{◌≡◌, ℕ, ◌/◌, ◌^◌, ◌<◌, ◌≤◌, List, [], ◌∷◌, ◌++◌, length, Bool, cond, true, false, Option, refl, sym, ◌∙◌, ap, append_assoc, append-nil, arith, rules}
+use Rattle.std.specs.Prelude.{◌==◌, codes, decimal, None, Some}
+use Rattle.std.proofs.lemmas.Bool.Decides.{nat_tests}
 use Rattle.std.specs.Option.{ForSome, is_some}
 use Rattle.std.specs.Int.{byte_at}
 use Rattle.std.proofs.Math.Nat.{pow-zero}
@@ -10,14 +11,15 @@ use Rattle.stp_grammar.specs.declared.packet.Row.TheVariants.{Datum, Flag, NullS
 use Rattle.stp_grammar.specs.declared.item.Place.{Place}
 use Rattle.stp_grammar.specs.declared.item.Stamp.{Stamp}
 use Rattle.stp_grammar.specs.declared.item.StpItem.{StpItem}
-use Rattle.stp_grammar.specs.Opcodes.{line_of}
+use Rattle.stp_grammar.specs.declared.item.StpItem.TheVariants.{Async as AsyncItem}
+use Rattle.stp_grammar.specs.Opcodes.{line_of, row_at}
 use Rattle.stp_grammar.specs.Proper.{IsProperItem}
 use Rattle.stp_grammar.specs.Attribution.{item_with}
 use Rattle.trace_text.specs.HexDigits.{hex_digits}
 use Rattle.trace_text.specs.Lengths.{HasDigits}
 use Rattle.trace_text.specs.LineText.{half_text, source_text}
 use Rattle.trace_text.specs.StpText.{place_text, stamp_text, stp_text}
-use Rattle.trace_text.specs.SaidText.{is_written, word_at, place_at, width_at, value_at, mark_at, stamp_at, said_text, said_line}
+use Rattle.trace_text.specs.SaidText.{is_told, is_written, word_of, word_at, place_at, width_at, value_at, mark_at, stamp_at, said_text, said_line}
 use Rattle.trace_text.proofs.HexNibbles.{encoded}
 use Rattle.trace_text.proofs.LongestLines.{stp_item}
 
@@ -46,6 +48,19 @@ written_text place stamp MasterError v e h =
 written_text place stamp GlobalError v e h = ap (λ (l : List ℕ). codes "gerr " ++ l) (append-nil (hex_digits 2 v) ∙ byte_digits v h)
 written_text place stamp (Frequency stamped) v e h = refl
 written_text place stamp row v e h = cc
+
+-- and those by the number, which may be that of ASYNC
+abbrev rest : Place → Stamp → Row → ℕ → List ℕ
+rest place stamp row v = place_at row place ++ (width_at row ++ (value_at row v ++ (mark_at row ++ stamp_at row stamp)))
+
+pub told_text : (place : Place) (stamp : Stamp) (n v : ℕ) → is_told n ≡ true → v < 16 ^ (line_of (row_at n)).payload →
+    word_of n ++ rest place stamp (row_at n) v ≡ said_text (cond (n == 35) (Some AsyncItem) (item_with place stamp (row_at n) v))
+unfolding hex_digits
+told_text place stamp n v e h = by (n == 35) refl e where
+  by : (t : Bool) → (n == 35) ≡ t → cond t true (is_written (row_at n)) ≡ true →
+      cond t (codes "async") (word_at (row_at n)) ++ rest place stamp (row_at n) v ≡ said_text (cond t (Some AsyncItem) (item_with place stamp (row_at n) v))
+  by true k w = ap (λ (m : ℕ). codes "async" ++ rest place stamp (row_at m) v) (let q : n ≡ 35 = grind (arith, nat_tests) in q)
+  by false k w = written_text place stamp (row_at n) v w h
 
 -- a line by its parts
 pub line_by : (at half id : ℕ) (o : Option StpItem) → is_some o ≡ true →

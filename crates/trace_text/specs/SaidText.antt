@@ -1,10 +1,11 @@
 -- The parts of the texts of data, flags, triggers, frequencies, NULL_TS and errors, by their rows in the table of
--- opcodes; and the line of what a packet says.
-use Rattle.std.specs.Prelude.{ℕ, List, [], ◌++◌, codes, decimal, Bool, true, false, Option, Some, None, if◌then◌else◌}
+-- opcodes, and of ASYNC, which is a word; and the line of what a packet says.
+use Rattle.std.specs.Prelude.{ℕ, ◌==◌, ◌||◌, List, [], ◌++◌, codes, decimal, Bool, true, false, Option, Some, None}
+use Rattle.std.specs.Prelude.{if◌then◌else◌}
 use Rattle.stp_grammar.specs.declared.packet.Row.{Row}
-use Rattle.stp_grammar.specs.declared.packet.Row.TheVariants.{Datum, Flag, NullStamp, Trigger, MasterError}
+use Rattle.stp_grammar.specs.declared.packet.Row.TheVariants.{Null, Datum, Flag, NullStamp, Trigger, MasterError}
 use Rattle.stp_grammar.specs.declared.packet.Row.TheVariants.{GlobalError, Frequency}
-use Rattle.stp_grammar.specs.Opcodes.{line_of}
+use Rattle.stp_grammar.specs.Opcodes.{line_of, row_at}
 use Rattle.stp_grammar.specs.declared.item.Place.{Place}
 use Rattle.stp_grammar.specs.declared.item.Stamp.{Stamp}
 use Rattle.stp_grammar.specs.declared.item.StpItem.{StpItem}
@@ -24,6 +25,10 @@ is_written MasterError = true
 is_written GlobalError = true
 is_written row = false
 
+-- or an ASYNC, whose number is 35: all parts but the word are those of NULL
+abbrev pub is_told : ℕ → Bool
+is_told number = if number == 35 then true else is_written (row_at number)
+
 -- the first word
 abbrev pub word_at : Row → List ℕ
 word_at (Datum width marked stamped) = codes "data "
@@ -33,6 +38,9 @@ word_at (Frequency stamped) = codes "freq "
 word_at MasterError = codes "merr "
 word_at GlobalError = codes "gerr "
 word_at row = codes "nullts "
+
+abbrev pub word_of : ℕ → List ℕ
+word_of number = if number == 35 then codes "async" else word_at (row_at number)
 
 -- only a datum, a flag and an error of a master have a place
 abbrev pub is_placed : Row → Bool
@@ -56,6 +64,10 @@ abbrev pub is_counted : Row → Bool
 is_counted (Frequency stamped) = true
 is_counted row = false
 
+-- which is after those of all other rows, and of ASYNC comes none
+abbrev pub is_late : ℕ → Bool
+is_late number = is_counted (row_at number) || number == 35
+
 -- the value, where the row has one
 abbrev pub value_at : Row → ℕ → List ℕ
 value_at row value = if is_counted row then decimal value else hex_digits (line_of row).payload value
@@ -67,10 +79,11 @@ mark_at (Trigger stamped) = codes " "
 mark_at (Frequency stamped) = codes " "
 mark_at row = []
 
--- only an error has no timestamp
+-- only an error and NULL have no timestamp
 abbrev pub is_timed : Row → Bool
 is_timed MasterError = false
 is_timed GlobalError = false
+is_timed Null = false
 is_timed row = true
 
 abbrev pub stamp_at : Row → Stamp → List ℕ

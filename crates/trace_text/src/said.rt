@@ -1,5 +1,6 @@
 //! The lines of what STP packets say, from their parts. Those of data, flags, triggers, frequencies, NULL_TS and
 //! errors, which are most, are put with one branch by what the packet is: whether its value is a frequency, in decimal.
+//! So is that of ASYNC, which has no value.
 
 ghost use Rattle.std.specs.Prelude.{◌≡◌, ◌+◌, ◌*◌, ◌/◌, ◌^◌, ◌≤◌, ◌<◌, ◌++◌, ◌==◌, true, false, length, Some};
 ghost use Rattle.std.specs.Option.{is_some};
@@ -8,7 +9,7 @@ ghost use Rattle.stp_grammar.specs.Said.{said_item, IsProperSaid};
 ghost use Rattle.stp_grammar.specs.declared.item.StpItem.{StpItem};
 ghost use Rattle.trace_text.specs.Digits.{hundreds_of, place_of};
 ghost use Rattle.trace_text.specs.LineText.{event_line, stp_event};
-ghost use Rattle.trace_text.specs.SaidText.{is_written, is_placed, is_counted, is_timed};
+ghost use Rattle.trace_text.specs.SaidText.{is_told, is_placed, is_counted, is_late, is_timed};
 ghost use Rattle.trace_text.specs.SaidText.{value_at, said_text, said_line};
 ghost use Rattle.trace_text.specs.declared.remark.Remark.TheVariants.{None as NoRemark};
 ghost use Rattle.trace_text.specs.Puts.{Puts};
@@ -22,15 +23,15 @@ use crate::said_tables::{
     WORDS, WRITTEN,
 };
 use crate::stp::{put_nibbles, put_stamp_times};
-use stp_grammar::said::Said;
+use stp_grammar::said::{ASYNC, Said};
 use trace_stream::{OUTLET_ROOM, Outlet, TEXT_ROOM, Text};
 use trace_values::SourceId;
 
-/// The line of a packet of the row of this number is put by its row.
+/// The line of a packet of the row of this number, or of ASYNC, is put by the tables.
 #[inline(always)]
 fn is_written(number: u8) -> bool
-    requires { number < 35 }
-    ensures { result ≡ is_written (row_at number) }
+    requires { number < 36 }
+    ensures { result ≡ is_told number }
 {
     (WRITTEN >> number) % 2 == 1
 }
@@ -38,7 +39,7 @@ fn is_written(number: u8) -> bool
 /// How many places the line has: 1 or 0.
 #[inline(always)]
 fn place_count(number: u8) -> usize
-    requires { number < 35 }
+    requires { number < 36 }
     ensures placed { (result == 1) ≡ is_placed (row_at number) }
     ensures few { result ≤ 1 }
 {
@@ -49,7 +50,7 @@ fn place_count(number: u8) -> usize
 /// How many timestamps the line has: 1 or 0.
 #[inline(always)]
 fn stamp_count(number: u8) -> usize
-    requires { number < 35 }
+    requires { number < 36 }
     ensures timed { (result == 1) ≡ is_timed (row_at number) }
     ensures few { result ≤ 1 }
 {
@@ -57,11 +58,11 @@ fn stamp_count(number: u8) -> usize
     counts[number as usize] as usize
 }
 
-/// The value is put in decimal: these are the two rows of frequencies, the last ones.
+/// The value is put in decimal, or there is none: these are the two rows of frequencies, the last ones, and ASYNC.
 #[inline(always)]
-fn is_counted(number: u8) -> bool
-    requires { number < 35 }
-    ensures { result ≡ is_counted (row_at number) }
+fn is_late(number: u8) -> bool
+    requires { number < 36 }
+    ensures { result ≡ is_late number }
 {
     number >= 33
 }
@@ -69,8 +70,8 @@ fn is_counted(number: u8) -> bool
 /// How many hexadecimal digits the value has.
 #[inline(always)]
 fn digit_count(number: u8) -> u8
-    requires number { number < 35 }
-    requires written { is_written (row_at number) ≡ true }
+    requires number { number < 36 }
+    requires written { is_told number ≡ true }
     requires hexadecimal { is_counted (row_at number) ≡ false }
     ensures count { result ≡ (line_of (row_at number)).payload }
     ensures few { result ≤ 16 }
@@ -79,27 +80,29 @@ fn digit_count(number: u8) -> u8
     counts[number as usize]
 }
 
-/// Puts the value, of at most sixteen digits: a frequency in decimal, and another in hexadecimal.
+/// Puts the value, of at most sixteen digits: a frequency in decimal, and another in hexadecimal. ASYNC has none.
 #[inline(always)]
 fn put_payload(room: &mut [u8], from: usize, number: u8, payload: u64) -> usize
-    requires number { number < 35 }
-    requires written { is_written (row_at number) ≡ true }
+    requires number { number < 36 }
+    requires written { is_told number ≡ true }
     requires fits { payload < 16 ^ (line_of (row_at number)).payload }
     requires room { from + NUMBER_ROOM ≤ length room.old }
     ensures { Puts room.old room.new from result 16 (value_at (row_at number) payload) }
 {
-    if is_counted(number) {
-        put_number(room, from, payload)
-    } else {
+    if !is_late(number) {
         put_nibbles(room, from, digit_count(number), payload)
+    } else if number == ASYNC {
+        from
+    } else {
+        put_number(room, from, payload)
     }
 }
 
-/// Puts a datum, a flag, a trigger, a frequency, a NULL_TS or an error, whose place is kept.
+/// Puts a datum, a flag, a trigger, a frequency, a NULL_TS, an error or an ASYNC, whose place is kept.
 #[inline(always)]
 fn put_said(room: &mut [u8], from: usize, digits: &Digits, said: Said) -> usize
     requires proper { IsProperSaid said }
-    requires written { is_written (row_at said.number) ≡ true }
+    requires written { is_told said.number ≡ true }
     requires kept { place_of digits.now.place ≡ said.place }
     requires room { from + ITEM_ROOM ≤ length room.old }
     ensures { Puts room.old room.new from result ITEM_ROOM (said_text (said_item said)) }
@@ -115,8 +118,8 @@ fn put_said(room: &mut [u8], from: usize, digits: &Digits, said: Said) -> usize
     put_stamp_times(room, from, said.stamp, stamp_count(number))
 }
 
-/// The line of a datum, a flag, a trigger, a frequency, a NULL_TS or an error, at an offset whose digits but for the
-/// last two are kept, as is its place.
+/// The line of a datum, a flag, a trigger, a frequency, a NULL_TS, an error or an ASYNC, at an offset whose digits but
+/// for the last two are kept, as is its place.
 #[derive(Drop)]
 pub(crate) struct SaidLine<'a> {
     pub(crate) digits: &'a Digits,
@@ -127,7 +130,7 @@ pub(crate) struct SaidLine<'a> {
 }
 
 impl Text for SaidLine<'_> {
-    ghost fits = { λ l. IsProperSaid l.said × (is_written (row_at l.said.number) ≡ true)
+    ghost fits = { λ l. IsProperSaid l.said × (is_told l.said.number ≡ true)
         × (is_some (said_item l.said) ≡ true)
         × (hundreds_of l.digits.now ≡ l.at / 100) × (place_of l.digits.now.place ≡ l.said.place) };
 

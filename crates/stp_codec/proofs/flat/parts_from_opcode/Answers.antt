@@ -1,6 +1,6 @@
 use Rattle.std.proofs.Common.{◌+◌, ◌≤◌, ◌∙◌, refl, sym, subst, arith, Bool, List, ℕ, cond}
 use Rattle.stp_codec.specs.Names.{Go, End, Msn, StpPacket, Plain, Stamped, Size, row_at, begin, after_payload}
-use Rattle.stp_codec.specs.Parts.{packet_of}
+use Rattle.stp_codec.specs.Parts.{row_packet_of}
 use Rattle.stp_codec.specs.Wholes.{nibbles_in, between, Ends}
 use Rattle.stp_codec.proofs.Between.{length-nibbles, between_none}
 use Rattle.stp_codec.proofs.Finishing.{ends_begin_at, both_some}
@@ -23,8 +23,8 @@ returns-then-stamped_at-clause-whole c =
     let row = row_at c.args.number in
     let payload = c.number_at_once-payload.result in
     both_some c.parts_from_size.result c.parts_from_size.ensures.end c.parts_from_size.ensures.whole
-    (λ x m k. from_payload ((goal.at.returns-then-stamped_at-clause-whole c).After-number_at_once-payload) x.nibbles (packet_of x) (let q = m.0 in omega (arith, q))
-    (subst (λ (t : Bool). Ends Msn (cond t (Go (Size row payload)) (End (Plain row payload))) (between (nibbles_in c.args.bytes.now) (c.args.start + c.payload_at-most.result) x.nibbles) (packet_of x))
+    (λ x m k. from_payload ((goal.at.returns-then-stamped_at-clause-whole c).After-number_at_once-payload) x.nibbles (row_packet_of x) (let q = m.0 in omega (arith, q))
+    (subst (λ (t : Bool). Ends Msn (cond t (Go (Size row payload)) (End (Plain row payload))) (between (nibbles_in c.args.bytes.now) (c.args.start + c.payload_at-most.result) x.nibbles) (row_packet_of x))
     (sym c.if-stamped_at.true ∙ c.stamped_at.ensures) k))
 
 pub returns-else-stamped_at-clause-whole : goal.returns-else-stamped_at-clause-whole
@@ -34,7 +34,7 @@ returns-else-stamped_at-clause-whole c =
     let payload = c.number_at_once-payload.result in
     let end = c.args.start + c.payload_at-most.result in
     from_payload ((goal.at.returns-else-stamped_at-clause-whole c).After-number_at_once-payload) end
-    (packet_of (record { nibbles = end; number = c.args.number; payload = payload; size = 0; word = 0 })) (omega arith)
+    (row_packet_of (record { nibbles = end; number = c.args.number; payload = payload; size = 0; word = 0 })) (omega arith)
     (subst (λ (t : Bool). Ends Msn (cond t (Go (Size row payload)) (End (Plain row payload))) (between xs end end)
     (cond t (Stamped row payload 0 0) (Plain row payload))) (sym c.if-stamped_at.false ∙ c.stamped_at.ensures)
     (subst (λ (w : List ℕ). Ends Msn (End (Plain row payload)) w (Plain row payload)) (sym (between_none xs end)) refl))

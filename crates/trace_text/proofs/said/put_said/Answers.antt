@@ -1,10 +1,9 @@
 use Rattle.std.proofs.Common.{Bool, ap, cond, [], arith}
-use Rattle.stp_grammar.specs.Opcodes.{row_at}
 use Rattle.stp_grammar.specs.Said.{said_item}
 use Rattle.trace_text.specs.StpText.{place_text, stamp_text}
 use Rattle.trace_text.proofs.Putting.{named, within, then}
 use Rattle.trace_text.proofs.SaidTables.{parts_are, parts_few}
-use Rattle.trace_text.proofs.SaidTexts.{written_text}
+use Rattle.trace_text.proofs.SaidTexts.{told_text}
 use Rattle.trace_text.proofs.said.put_said.Goals as goal
 
 pub put_part-from-requires-clause-few : goal.put_part-from-requires-clause-few
@@ -29,4 +28,4 @@ returns c =
     let mark = named c.put_part-from-3.ensures parts.2 in
     let stamp = named c.put_stamp_times.ensures (ap (λ (t : Bool). cond t (stamp_text said.stamp) []) c.stamp_count.ensures.timed) in
     within (then word (then place (then width (then c.put_payload-from.ensures (then mark stamp))))) (omega arith)
-    (written_text said.place said.stamp (row_at said.number) said.payload written c.requires.proper.payload)
+    (told_text said.place said.stamp said.number said.payload written c.requires.proper.payload)

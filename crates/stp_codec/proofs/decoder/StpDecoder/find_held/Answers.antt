@@ -10,7 +10,8 @@ pub after-requires : goal.after-requires
 after-requires c =
     let x = c.in-Some.parts in
     let e = c.in-Some.ensures in
-    let k = held_some c.args.self.now c.requires.ready c.args.ahead.now c.requires.held x.nibbles (packet_of x) (let n = e.end in omega (arith, n.1)) e.whole in
+    let ends = e.ends c.if-parts-before.true in
+    let k = held_some c.args.self.now c.requires.ready c.args.ahead.now c.requires.held x.nibbles (packet_of x) (let n = ends.0 in omega (arith, n)) ends.1 in
     omega (arith, k)
 
 pub returns-then-parts-before-clause-found : goal.returns-then-parts-before-clause-found
@@ -19,13 +20,15 @@ returns-then-parts-before-clause-found c =
     let x = c.in-Some.parts in
     let e = c.in-Some.ensures in
     let t = c.if-parts-before.true in
+    let ends = e.ends t in
     subst (λ (y : PacketParts). Finds d d c.args.ahead.now c.args.count (Ends y)) (sym c.after.ensures)
-    (finds_packet d c.args.ahead.now c.args.count (record x { nibbles = x.nibbles - 2 * d.waiting }) e.number (omega (arith, t)) c.requires.ready
-    (held_finishes d c.requires.ready c.args.ahead.now c.requires.held x.nibbles (packet_of x) (let n = e.end in omega (arith, n.1)) e.whole (omega (arith, t)) e.proper))
+    (finds_packet d c.args.ahead.now c.args.count (record x { nibbles = x.nibbles - 2 * d.waiting }) e.number e.none (omega (arith, t)) c.requires.ready
+    (held_finishes d c.requires.ready c.args.ahead.now c.requires.held x.nibbles (packet_of x) (let n = ends.0 in omega (arith, n)) ends.1 (omega (arith, t)) e.proper))
 
 pub wait-requires-clause-fronts : goal.wait-requires-clause-fronts
 wait-requires-clause-fronts c =
-    let x = c.in-Some.parts in
-    let e = c.in-Some.ensures in
     let f = c.if-parts-before.false in
-    held_fronts c.args.self.now c.requires.ready c.args.ahead.now c.requires.held x.nibbles (packet_of x) (let n = e.end in omega (arith, n.1)) e.whole c.args.count (omega (arith, f)) (omega arith)
+    let g = c.in-Some.ensures.goes (omega (arith, f)) in
+    let n = g.0 in
+    held_fronts c.args.self.now c.requires.ready c.args.ahead.now c.args.count (c.requires.held c.args.count (omega (arith, n)))
+    (omega (arith, n)) g.1
