@@ -24,18 +24,19 @@ take_fewer (suc m) (suc q) [] h = refl
 take_fewer (suc m) (suc q) (b ∷ x) h = ap (λ r. b ∷ r) (take_fewer m q x (omega arith))
 
 -- bytes copied behind so many
-pub copied_front : (held y : List ℕ) (w : ℕ) → w ≤ length held → take w (take w held ++ y) ≡ take w held
-copied_front held y w h = ap (λ n. take n (take w held ++ y)) (sym (length-take-le w held h)) ∙ take-append_seam (take w held) y
+module _ (held new window ahead : List ℕ) (w : ℕ) (h : w ≤ length held) (e : take (w + 24) new ≡ take w held ++ window) where
+  pub copied_front : take w new ≡ take w held
+  copied_front =
+      sym (take_fewer w (w + 24) new (omega arith)) ∙ ap (take w) e
+      ∙ ap (λ n. take n (take w held ++ window)) (sym (length-take-le w held h)) ∙ take-append_seam (take w held) window
 
-pub copied : (held x r ahead : List ℕ) (w k : ℕ) → w ≤ length held → k ≤ 24 → 24 ≤ length ahead → x ≡ take 24 ahead →
-    take (w + k) (take w held ++ (x ++ r)) ≡ take w (take w held ++ (x ++ r)) ++ take k ahead
-copied held x r ahead w k h few most e =
-    let l = length-take-le 24 ahead most in
-    let n : length x ≡ 24 = ap length e ∙ l in
-    ap (λ i. take (i + k) (take w held ++ (x ++ r))) (sym (length-take-le w held h))
-    ∙ take-append-add (take w held) (x ++ r) k
-    ∙ ap (λ z. take w held ++ z) (take-append-le k x r (omega (arith, few, n)) ∙ ap (take k) e ∙ take_fewer k 24 ahead few)
-    ∙ ap (λ z. z ++ take k ahead) (sym (copied_front held (x ++ r) w h))
+  pub copied : (k : ℕ) → k ≤ 24 → window ≡ take 24 ahead → take (w + k) new ≡ take w new ++ take k ahead
+  copied k few same =
+      sym (take_fewer (w + k) (w + 24) new (omega (arith, few))) ∙ ap (take (w + k)) e
+      ∙ ap (λ i. take (i + k) (take w held ++ window)) (sym (length-take-le w held h))
+      ∙ take-append-add (take w held) window k
+      ∙ ap (λ z. take w held ++ z) (ap (take k) same ∙ take_fewer k 24 ahead few)
+      ∙ ap (λ z. z ++ take k ahead) (sym copied_front)
 
 -- fewer of some elements, the next one, and the others
 split_at : (x : List ℕ) (k m : ℕ) → k < m → k < length x → (c : ℕ) × (r : List ℕ) × (take m x ≡ take k x ++ c ∷ r)

@@ -26,6 +26,18 @@ fn window_in(ahead: &[u8]) -> &[u8; WINDOW]
     ahead[..WINDOW].first_chunk::<WINDOW>().unwrap()
 }
 
+/// Puts these bytes behind the first `from`. They are put one by one, from a copy, which becomes a few stores of whole
+/// words: a copy of a slice asks first whether the two overlap.
+#[inline(always)]
+fn put_window(held: &mut [u8], from: usize, window: &[u8; WINDOW])
+    requires room { from + WINDOW ≤ length held.old }
+    ensures { take (from + WINDOW) held.new ≡ take from held.old ++ window.now }
+{
+    for index in 0..WINDOW {
+        held[from + index] = window[index];
+    }
+}
+
 impl StpDecoder {
     /// A packet that begins or has begun can be read as numbers. It is live.
     #[inline(always)]
@@ -36,16 +48,14 @@ impl StpDecoder {
         self.first < MANY
     }
 
-    /// Copies bytes behind those that wait. They come from a copy, which is nowhere in the decoder: so no test whether
-    /// it is goes before them.
+    /// Copies bytes behind those that wait.
     #[inline(always)]
     fn hold(&mut self, ahead: &[u8])
         requires ahead { WINDOW ≤ length ahead.now }
         ensures { Copies self.old self.new ahead.now }
     {
-        let from = self.waiting;
         let window = *window_in(ahead);
-        self.held[from..from + WINDOW].copy_from_slice(&window);
+        put_window(&mut self.held, self.waiting, &window);
     }
 
     /// Lets the first `count` of these bytes wait. They are behind those that wait already, and within the packet.
