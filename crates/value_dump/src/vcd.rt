@@ -97,7 +97,9 @@ impl Action for Vcd {
     fn feed(&mut self, piece: &[u8], outlet: &mut Outlet, _notes: &mut Outlet) -> Progress {
         let at = self.engine.next();
         self.begin(outlet);
-        let bytes = self.engine.take(at, piece, &mut self.stop, &mut self.source, outlet);
+        let bytes = self
+            .engine
+            .take(at, piece, &mut self.stop, &mut self.source, outlet);
         Progress {
             bytes,
             is_faulty: self.stop.is_some(),
