@@ -45,16 +45,15 @@ pub enum ContentKind {
     Trigger,
 }
 
-/// Whether a packet of this source meets one of the choices. This and the next are kept out of line, so that what a
-/// choice sees is in memory only here.
+/// Whether what this source gives meets one of the choices. It is kept out of line, so that it is in memory only here.
 #[inline(never)]
-fn hold_itm(choices: &Choices, source: SourceId, packet: ItmPacket) -> bool
-    ensures { result ≡ wants (Some choices.now) (Some source) (Itm packet) }
+fn hold_in(choices: &Choices, source: SourceId, content: Content) -> bool
+    ensures { result ≡ wants (Some choices.now) (Some source) content }
 {
-    choices.hold_in(Some(source), &Content::Itm(packet))
+    choices.hold_in(Some(source), &content)
 }
 
-/// Whether what this source gives meets one of the choices.
+/// Whether what this source gives meets one of the choices. What a choice sees of it is made only here.
 #[inline(never)]
 fn hold_kind(choices: &Choices, source: SourceId, kind: ContentKind) -> bool
     ensures { result ≡ wants (Some choices.now) (Some source) (content_by kind) }
@@ -119,7 +118,7 @@ impl Filter {
     {
         match &self.only {
             None => true,
-            Some(choices) => hold_itm(choices, source, *packet),
+            Some(choices) => hold_in(choices, source, Content::Itm(*packet)),
         }
     }
 

@@ -1,9 +1,70 @@
-use Rattle.stp_grammar.specs.Said.{said_item}
+use Rattle.std.proofs.Common.{◌≡◌, ◌^◌, ◌<◌, ◌++◌, ℕ, Bool, cond, Option, Some, true, false, refl, sym, ◌∙◌, ap, arith, subst}
+use Rattle.std.specs.Prelude.{◌==◌}
+use Rattle.std.specs.Option.{is_some}
+use Rattle.stp_grammar.specs.Attribution.{item_with}
+use Rattle.stp_grammar.specs.Opcodes.{line_of, row_at}
+use Rattle.stp_grammar.specs.Said.{said_item, IsProperSaid}
+use Rattle.stp_grammar.specs.declared.item.StpItem.{StpItem}
+use Rattle.stp_grammar.specs.declared.item.StpItem.TheVariants.{Async, Version as VersionItem}
+use Rattle.stp_grammar.specs.declared.packet.Row.{Row}
+use Rattle.stp_grammar.specs.declared.packet.Row.TheVariants.{Version}
+use Rattle.stp_grammar.specs.declared.said.Said.{Said}
 use Rattle.stp_grammar.proofs.Saying.{said_fits}
-use Rattle.trace_text.specs.SaidText.{said_line}
+use Rattle.trace_text.specs.LineText.{event_line, stp_event}
+use Rattle.trace_text.specs.SaidText.{is_told, is_written, said_line}
+use Rattle.trace_text.specs.declared.remark.Remark.TheVariants.{None as NoRemark}
 use Rattle.trace_text.proofs.LongestLines.{longer_event}
-use Rattle.trace_text.proofs.SaidTexts.{line_most}
+use Rattle.trace_text.proofs.SaidTexts.{line_most, version_only}
 use Rattle.trace_text.proofs.said.put_said_line.Goals as goal
+
+-- what is not put by its number has a row, and its item is that of the row
+untold : (n : ℕ) → is_told n ≡ false → ((n == 35) ≡ false) × (is_written (row_at n) ≡ false)
+untold n w = by (n == 35) refl w where
+  by : (t : Bool) → (n == 35) ≡ t → cond t true (is_written (row_at n)) ≡ false →
+      ((n == 35) ≡ false) × (is_written (row_at n) ≡ false)
+  by true k w = cc
+  by false k w = (k, w)
+
+row_item : (said : Said) → is_told said.number ≡ false →
+    said_item said ≡ item_with said.place said.stamp (row_at said.number) said.payload
+unfolding said_item
+row_item said w =
+    ap (λ (t : Bool). cond t (Some Async) (item_with said.place said.stamp (row_at said.number) said.payload))
+    (untold said.number w).0
+
+-- it is a VERSION
+is_version : (said : Said) → is_told said.number ≡ false → is_some (said_item said) ≡ true →
+    row_at said.number ≡ Version
+is_version said w s =
+    version_only said.place said.stamp (row_at said.number) said.payload (untold said.number w).1
+    (ap (λ (o : Option StpItem). is_some o) (sym (row_item said w)) ∙ s)
+
+few : (said : Said) → IsProperSaid said → row_at said.number ≡ Version → said.payload < 16
+few said p e = subst (λ (r : Row). said.payload < 16 ^ (line_of r).payload) e p.payload
+
+item_is : (said : Said) → is_told said.number ≡ false → row_at said.number ≡ Version →
+    said_item said ≡ Some (VersionItem said.payload)
+item_is said w e =
+    row_item said w ∙ ap (λ (r : Row). item_with said.place said.stamp r said.payload) e
+
+pub overflow_cast-said : goal.overflow_cast-said
+overflow_cast-said c =
+    let w : is_told c.args.said.number ≡ false = (let a = c.if-not-is_written.true in let b = c.is_written.ensures in cc) in
+    let l = few c.args.said c.requires.proper (is_version c.args.said w c.requires.some) in
+    omega (arith, l)
+
+pub put_version_line-requires-clause-proper : goal.put_version_line-requires-clause-proper
+put_version_line-requires-clause-proper c =
+    let w : is_told c.args.said.number ≡ false = (let a = c.if-not-is_written.true in let b = c.is_written.ensures in cc) in
+    few c.args.said c.requires.proper (is_version c.args.said w c.requires.some)
+
+pub returns-then-not-is_written-clause-line : goal.returns-then-not-is_written-clause-line
+returns-then-not-is_written-clause-line c = λ item said.
+    let w : is_told c.args.said.number ≡ false = (let a = c.if-not-is_written.true in let b = c.is_written.ensures in cc) in
+    let same : VersionItem c.args.said.payload ≡ item =
+    (let a = item_is c.args.said w (is_version c.args.said w c.requires.some) in cc) in
+    c.put_version_line.ensures.line
+    ∙ ap (λ (i : StpItem). c.args.outlet.now ++ event_line true (stp_event c.args.at c.args.half c.args.id i) NoRemark) same
 
 pub returns-clause-bound : goal.returns-clause-bound
 returns-clause-bound c =
