@@ -4,14 +4,14 @@ use Rattle.std.proofs.lemmas.List.{drop-take, get_or-drop, get_or-take}
 use Rattle.source_merge.specs.Names.{Cell, bytes_of, source_id}
 use Rattle.source_merge.specs.declared.split.SplitRun.{SplitRun}
 use Rattle.source_merge.specs.Routing.{IsRunOf}
-use Rattle.source_merge.specs.Split.{data_places, run_in, run_begun}
+use Rattle.source_merge.specs.Split.{data_places, run_in, start_in}
 use Rattle.source_merge.proofs.DataCells.{cells_bytes, cells_cell, cells_id}
 use Rattle.source_merge.proofs.Parts.{part_length, part_places, part_sized}
 use Rattle.source_merge.proofs.Splitting.{part_to, places_long}
 
 module _ (run : SplitRun) where
   abbrev from : ℕ
-  from = run.begun.from
+  from = run.from
 
   abbrev end : ℕ
   end = run.end
@@ -23,13 +23,13 @@ module _ (run : SplitRun) where
   places = data_places run.placed.now
 
   pub run_length : length (run_in run) ≡ end - from
-  run_length = part_length places bytes (places_long run.placed.now) run.placed.now.sized (part_to (run_begun run.begun) run.end) run.within
+  run_length = part_length places bytes (places_long run.placed.now) run.placed.now.sized (part_to (start_in run) run.end) run.within
 
   own_places : length (drop from (take end places)) ≡ end - from
-  own_places = part_places places bytes (places_long run.placed.now) run.placed.now.sized (part_to (run_begun run.begun) run.end) run.within
+  own_places = part_places places bytes (places_long run.placed.now) run.placed.now.sized (part_to (start_in run) run.end) run.within
 
   own_bytes : length (drop from (take end bytes)) ≡ end - from
-  own_bytes = part_sized places bytes (places_long run.placed.now) run.placed.now.sized (part_to (run_begun run.begun) run.end) run.within
+  own_bytes = part_sized places bytes (places_long run.placed.now) run.placed.now.sized (part_to (start_in run) run.end) run.within
 
   same : take (end - from) (drop from bytes) ≡ drop from (take end bytes)
   same =
@@ -40,21 +40,21 @@ module _ (run : SplitRun) where
   run_bytes =
       ap (λ (n : ℕ). take n (drop from bytes)) run_length
       ∙ same
-      ∙ sym (cells_bytes (drop from (take end places)) (source_id run.begun.number) run.begun.run (drop from (take end bytes))
+      ∙ sym (cells_bytes (drop from (take end places)) (source_id run.number) run.run (drop from (take end bytes))
       (let a = own_places in let b = own_bytes in omega arith))
 
   pub run_cell : (i : ℕ) (c : Cell) → i < end - from → get_or (run_in run) i c ≡
-      record { at = get_or places (from + i) 0; id = source_id run.begun.number; run = run.begun.run; byte = get_or bytes (from + i) 0 }
+      record { at = get_or places (from + i) 0; id = source_id run.number; run = run.run; byte = get_or bytes (from + i) 0 }
   run_cell i c l =
       let a = own_places in
       let b = own_bytes in
-      cells_cell (drop from (take end places)) (source_id run.begun.number) run.begun.run (drop from (take end bytes)) i 0 0 c (omega arith) (omega arith)
-      ∙ ap (λ (x : ℕ). record { at = x; id = source_id run.begun.number; run = run.begun.run; byte = get_or (drop from (take end bytes)) i 0 })
+      cells_cell (drop from (take end places)) (source_id run.number) run.run (drop from (take end bytes)) i 0 0 c (omega arith) (omega arith)
+      ∙ ap (λ (x : ℕ). record { at = x; id = source_id run.number; run = run.run; byte = get_or (drop from (take end bytes)) i 0 })
       (get_or-drop from (take end places) i 0 ∙ get_or-take end places (from + i) 0 (omega arith))
-      ∙ ap (λ (x : ℕ). record { at = get_or places (from + i) 0; id = source_id run.begun.number; run = run.begun.run; byte = x })
+      ∙ ap (λ (x : ℕ). record { at = get_or places (from + i) 0; id = source_id run.number; run = run.run; byte = x })
       (get_or-drop from (take end bytes) i 0 ∙ get_or-take end bytes (from + i) 0 (omega arith))
 
-  pub run_own : IsRunOf (source_id run.begun.number) (run_in run)
+  pub run_own : IsRunOf (source_id run.number) (run_in run)
   run_own =
       let a = own_places in
       let b = own_bytes in
@@ -62,7 +62,7 @@ module _ (run : SplitRun) where
       let some = run.some in
       let within = run.within in
       record {
-        own = cells_id (drop from (take end places)) (source_id run.begun.number) run.begun.run (drop from (take end bytes)) (omega arith) (omega arith);
+        own = cells_id (drop from (take end places)) (source_id run.number) run.run (drop from (take end bytes)) (omega arith) (omega arith);
         some = omega arith;
         few = omega arith;
       }

@@ -35,9 +35,13 @@ split_cells split = cells split.frame.now.bytes (frame_places split.frame.now) s
 abbrev pub data_places : PlacedData → List ℕ
 data_places placed = places_of placed.at placed.behind
 
--- the cells of one of its runs
+-- how one of its runs began
+abbrev pub start_in : SplitRun → RunStart
+start_in run = record { source = source_id run.number; run = run.run; from = run.from }
+
+-- its cells
 abbrev pub run_in : SplitRun → List Cell
-run_in run = begun_cells (data_places run.placed.now) run.placed.now.bytes (run_begun run.begun) run.end
+run_in run = begun_cells (data_places run.placed.now) run.placed.now.bytes (start_in run) run.end
 
 -- The data of a frame whose bytes are at these offsets are in their places.
 pub record AreInPlace (frame at bytes places : List ℕ) : Type 0 where

@@ -88,7 +88,7 @@ impl PlacedData {
     }
 }
 
-/// A run that has begun. Its fields are so small that a run of a frame has no padding.
+/// A run that has begun.
 #[derive(Clone, Copy, Drop)]
 struct Begun {
     /// The number of its source. It has none where this is `NO_SOURCE`.
@@ -96,7 +96,7 @@ struct Begun {
     /// How many IDs the frame has named up to it.
     run: u8,
     /// The index of its first byte.
-    from: u16,
+    from: usize,
 }
 
 /// The number of this source, or of none.
@@ -127,7 +127,7 @@ pub struct SplitFrame<'a> {
     placed: &'a PlacedData,
     /// The pairs at which its runs end, and those of which end late.
     ends: RunEnds,
-    late: u8,
+    late: usize,
     /// The ID before it.
     id: Option<SourceId>,
 }
@@ -156,7 +156,7 @@ impl<'f> SplitFrame<'f> {
             frame,
             placed,
             ends: RunEnds::of(&frame.bytes),
-            late: late_ends(&frame.bytes),
+            late: usize::from(late_ends(&frame.bytes)),
             id: *id,
         }
     }
@@ -192,10 +192,12 @@ impl<'f> SplitFrame<'f> {
             let end = self.end_of(pair);
             let begun = left.begun;
             left.begun = self.begun_after(begun.run, pair, end);
-            if (begun.from as usize) < end {
+            if begun.from < end {
                 return Some(SplitRun {
                     placed: self.placed,
-                    begun,
+                    number: begun.number,
+                    run: begun.run,
+                    from: begun.from as u16,
                     end: end as u32,
                 });
             }
@@ -233,7 +235,7 @@ impl<'f> SplitFrame<'f> {
         Begun {
             number: self.frame.bytes[2 * pair] / 2,
             run: run + 1,
-            from: (end + 1) as u16,
+            from: end + 1,
         }
     }
 
@@ -245,18 +247,23 @@ impl<'f> SplitFrame<'f> {
         ensures is { result ≡ end_at self.now.frame.now.bytes pair }
         ensures within { result ≤ DATA_BYTES }
     {
-        2 * pair + usize::from((self.late >> pair) % 2)
+        2 * pair + (self.late >> pair) % 2
     }
 }
 
-/// A run of a frame. It has no padding, either.
+/// A run of a frame. Its fields are so small that it has no padding, either.
 #[derive(Drop)]
 pub struct SplitRun<'a> {
     placed: &'a PlacedData,
-    begun: Begun,
+    /// The number of its source, as in `Begun`.
+    number: u8,
+    /// How many IDs the frame has named up to it.
+    run: u8,
+    /// The index of its first byte.
+    from: u16,
     /// The index after its last byte.
     end: u32,
-    ghost some: { begun.from < end },
+    ghost some: { from < end },
     ghost within: { end ≤ DATA_BYTES },
 }
 
@@ -269,7 +276,7 @@ impl SplitRun<'_> {
     pub fn source(&self) -> Option<SourceId>
         ensures { IsRunOf result (run_in self.now) }
     {
-        SourceId::new(self.begun.number)
+        SourceId::new(self.number)
     }
 }
 
@@ -280,7 +287,7 @@ impl Run for SplitRun<'_> {
 
     #[inline(always)]
     fn len(&self) -> usize {
-        self.end as usize - self.begun.from as usize
+        self.end as usize - self.from as usize
     }
 
     #[inline(always)]
@@ -290,16 +297,16 @@ impl Run for SplitRun<'_> {
 
     #[inline(always)]
     fn ahead(&self) -> &[u8] {
-        self.placed.bytes_from(self.begun.from as usize)
+        self.placed.bytes_from(self.from as usize)
     }
 
     #[inline(always)]
     fn cell(&self, index: usize) -> Cell {
-        let here = self.begun.from as usize + index;
+        let here = self.from as usize + index;
         Cell {
             at: self.placed.offset_of(here),
-            id: SourceId::new(self.begun.number),
-            run: self.begun.run,
+            id: SourceId::new(self.number),
+            run: self.run,
             byte: self.placed.byte_at(here),
         }
     }

@@ -1,4 +1,4 @@
-use Rattle.std.proofs.Common.{◌+◌, ◌*◌, ◌∙◌, ℕ, ap, arith}
+use Rattle.std.proofs.Common.{arith}
 use Rattle.source_merge.proofs.Cuts.{end_near}
 use Rattle.source_merge.proofs.split.SplitFrame.end_of.Goals as goal
 
@@ -6,5 +6,5 @@ pub returns : goal.returns
 returns c =
     let pair = c.args.pair in
     let near = (end_near c.args.self.now.frame.now.bytes pair c.requires.pair).1 in
-    let is = ap (λ (n : ℕ). 2 * pair + n) c.from.ensures ∙ c.requires.split.late pair c.requires.pair in
+    let is = c.requires.split.late pair c.requires.pair in
     record { is = is; within = omega (arith, is, near) }

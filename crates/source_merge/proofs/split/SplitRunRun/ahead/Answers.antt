@@ -13,7 +13,7 @@ returns-clause-room c =
     let run = c.args.self.now in
     let a = run_length run in
     let b = ap length c.bytes_from.ensures in
-    let d = length-drop run.begun.from run.placed.now.bytes in
+    let d = length-drop run.from run.placed.now.bytes in
     let s = run.placed.now.sized in
     let w = run.within in
     omega (arith, a, b, d, s, w)

@@ -18,15 +18,14 @@ pub returns : goal.returns
 returns c =
     let run = c.args.self.now in
     let placed = run.placed.now in
-    let begun = run.begun in
     let i = c.args.index in
     let within = run.within in
-    let l : i < run.end - begun.from = (let h = c.requires in let r = run_length run in omega (arith, h, r)) in
+    let l : i < run.end - run.from = (let h = c.requires in let r = run_length run in omega (arith, h, r)) in
     let long = placed.places in
-    let own : ℕ → ℕ → Cell = λ at byte. record { at = at; id = source_id begun.number; run = begun.run; byte = byte } in
-    ap (λ (x : Option ℕ). record { at = c.offset_of.result; id = x; run = begun.run; byte = c.byte_at.result }) c.new.ensures
+    let own : ℕ → ℕ → Cell = λ at byte. record { at = at; id = source_id run.number; run = run.run; byte = byte } in
+    ap (λ (x : Option ℕ). record { at = c.offset_of.result; id = x; run = run.run; byte = c.byte_at.result }) c.new.ensures
     ∙ ap (λ (x : ℕ). own x c.byte_at.result) c.offset_of.ensures
-    ∙ ap (λ (x : ℕ). own (placed.at + slice_index placed.behind (begun.from + i)) x) c.byte_at.ensures
-    ∙ ap (λ (x : ℕ). own x (slice_index placed.bytes (begun.from + i)))
-    (sym (offset_is placed.at placed.behind (begun.from + i) (omega (arith, l, within, long))))
+    ∙ ap (λ (x : ℕ). own (placed.at + slice_index placed.behind (run.from + i)) x) c.byte_at.ensures
+    ∙ ap (λ (x : ℕ). own x (slice_index placed.bytes (run.from + i)))
+    (sym (offset_is placed.at placed.behind (run.from + i) (omega (arith, l, within, long))))
     ∙ sym (run_cell run i _ l)
