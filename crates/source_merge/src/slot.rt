@@ -162,9 +162,12 @@ impl GivesTold for ItmDecoder {
         at: u64,
         taken: TakenAtOnce<Told>,
     ) {
-        if let Some(Told::Itm(packet)) = taken.item {
-            items.add_event(source);
-            out.give_itm(to, at, taken.half, source, packet);
+        // It is matched in two steps, since by one pattern the packet would go to memory, too.
+        if let Some(said) = taken.item {
+            if let Told::Itm(packet) = said {
+                items.add_event(source);
+                out.give_itm(to, at, taken.half, source, packet);
+            }
         }
     }
 }
