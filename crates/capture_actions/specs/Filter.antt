@@ -3,6 +3,9 @@ use Rattle.std.specs.Prelude.{ℕ, List, Option, Some, None, ⊤, Bool, true}
 use Rattle.capture_actions.specs.Names.{Event, Packet, Plan, Bounds, Choice, holds, Content, holds_any_in}
 use Rattle.item_tap.specs.declared.window.Window.{Window}
 use Rattle.item_tap.specs.Seen as seen
+use Rattle.capture_actions.specs.declared.filter.ContentKind.{ContentKind}
+use Rattle.capture_actions.specs.declared.filter.ContentKind.TheVariants.{Stp, Raw, Trigger}
+use Rattle.item_tap.specs.declared.content.Content.TheVariants.{Stp as ofStp, Raw as ofRaw, Trigger as ofTrigger}
 use Rattle.capture_actions.specs.declared.filter.Filter.{Filter}
 use Rattle.capture_actions.specs.declared.list_plan.ListPlan.{ListPlan}
 use Rattle.capture_actions.specs.Listing.{items_in}
@@ -14,6 +17,12 @@ ChoiceWindow = Window Choice Choice Choice Choice
 abbrev pub wants : Option (List Choice) → Option ℕ → Content → Bool
 wants None source content = true
 wants (Some choices) source content = holds_any_in choices source content
+
+-- what a choice sees of what a source gives that has nothing more of which it asks
+abbrev pub content_by : ContentKind → Content
+content_by Stp = ofStp
+content_by Raw = ofRaw
+content_by Trigger = ofTrigger
 
 -- the choices of a window, if there is one
 abbrev pub bounds_in : Option ChoiceWindow → Option Bounds

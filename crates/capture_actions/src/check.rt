@@ -9,10 +9,11 @@ ghost use Rattle.capture_actions.specs.Summary.{source_text, sources_text};
 use crate::kind_counts::MANY;
 use crate::plan_table::sends_stp;
 use crate::reading::{CaptureReading, TURNS};
+use itm_grammar::packet::ItmPacket;
 use source_counts::Counts;
 use source_events::{Event, Packet, Plan, SourceKind};
-use source_machine::Told;
 use source_merge::{Engine, Receiver};
+use stp_grammar::said::Said;
 use trace_stream::{Action, OUTLET_ROOM, Outlet, Progress, TEXT_ROOM};
 use trace_text::{
     PortCountsLines, SOURCE_COUNTS_ROOM, TAILS_ROOM, print_fault, print_tails, put_source_counts,
@@ -63,7 +64,17 @@ impl Receiver for Ignored {
     }
 
     #[inline(always)]
-    fn give_told(&mut self, _to: &mut (), _at: u64, _half: u8, _source: SourceId, _told: Told) {}
+    fn give_itm(
+        &mut self,
+        _to: &mut (),
+        _at: u64,
+        _half: u8,
+        _source: SourceId,
+        _packet: ItmPacket,
+    ) {}
+
+    #[inline(always)]
+    fn give_said(&mut self, _to: &mut (), _at: u64, _half: u8, _source: SourceId, _said: Said) {}
 
     #[inline(always)]
     fn give_raw(&mut self, _to: &mut (), _at: u64, _source: SourceId, _bytes: &[u8]) {}

@@ -3,7 +3,7 @@
 ghost use Rattle.std.specs.Prelude.{◌≡◌, ◌↔◌, ◌++◌, ◌∷◌, [], List, IsTrue, not, ◌&&◌, ◌||◌, is_none, Some};
 ghost use Rattle.capture_actions.specs.Names.{Event, Packet, is_item};
 ghost use Rattle.capture_actions.specs.Listing.{meets, is_within, is_listed};
-ghost use Rattle.capture_actions.specs.Filter.{SawAll, bounds_in, wants};
+ghost use Rattle.capture_actions.specs.Filter.{SawAll, bounds_in, content_by, wants};
 ghost use Rattle.capture_actions.specs.Guesses.{is_open};
 ghost use Rattle.item_tap.specs.declared.content.Content.TheVariants.{Itm};
 
@@ -34,11 +34,35 @@ fn meets(only: &Option<Choices>, event: &Event<Packet>) -> bool
     }
 }
 
+/// What a source gives that has nothing more of which a choice asks.
+#[derive(Clone, Copy, Drop)]
+pub enum ContentKind {
+    /// An item of a system trace.
+    Stp,
+    /// Bytes of a source that is not mapped.
+    Raw,
+    /// A byte of the trigger source, 125.
+    Trigger,
+}
+
 /// Whether what this source gives meets one of the choices. It is kept out of line, so that it is in memory only here.
 #[inline(never)]
 fn hold_in(choices: &Choices, source: SourceId, content: Content) -> bool
     ensures { result ≡ wants (Some choices.now) (Some source) content }
 {
+    choices.hold_in(Some(source), &content)
+}
+
+/// Whether what this source gives meets one of the choices. What a choice sees of it is made only here.
+#[inline(never)]
+fn hold_kind(choices: &Choices, source: SourceId, kind: ContentKind) -> bool
+    ensures { result ≡ wants (Some choices.now) (Some source) (content_by kind) }
+{
+    let content = match kind {
+        ContentKind::Stp => Content::Stp,
+        ContentKind::Raw => Content::Raw,
+        ContentKind::Trigger => Content::Trigger,
+    };
     choices.hold_in(Some(source), &content)
 }
 
@@ -100,12 +124,12 @@ impl Filter {
 
     /// Whether this, which a source gives, meets one of the choices, if there are any.
     #[inline(always)]
-    pub fn wants(&self, source: SourceId, content: Content) -> bool
-        ensures { result ≡ wants self.now.only (Some source) content }
+    pub fn wants(&self, source: SourceId, kind: ContentKind) -> bool
+        ensures { result ≡ wants self.now.only (Some source) (content_by kind) }
     {
         match &self.only {
             None => true,
-            Some(choices) => hold_in(choices, source, content),
+            Some(choices) => hold_kind(choices, source, kind),
         }
     }
 

@@ -6,9 +6,10 @@ ghost use Rattle.capture_actions.specs.Words.{word_of, number_of};
 ghost use Rattle.capture_actions.specs.KindCounts.{HasCounted, number_at};
 
 use crate::item_word::{ItemWord, WORD_COUNT};
+use itm_grammar::packet::ItmPacket;
 use source_events::{Event, Packet, SourceKind};
-use source_machine::Told;
 use source_merge::Receiver;
+use stp_grammar::said::Said;
 use trace_values::{ID_COUNT, SourceId};
 
 /// A number for each word of each source.
@@ -112,14 +113,14 @@ impl Receiver for KindCounts {
     }
 
     #[inline(always)]
-    fn give_told(&mut self, _to: &mut (), _at: u64, _half: u8, source: SourceId, told: Told) {
-        match told {
-            Told::Itm(packet) => self.add(source, ItemWord::of_packet(&packet)),
-            Told::Stp(said) => {
-                if let Some(item) = said.item() {
-                    self.add(source, ItemWord::of_item(&item));
-                }
-            }
+    fn give_itm(&mut self, _to: &mut (), _at: u64, _half: u8, source: SourceId, packet: ItmPacket) {
+        self.add(source, ItemWord::of_packet(&packet));
+    }
+
+    #[inline(always)]
+    fn give_said(&mut self, _to: &mut (), _at: u64, _half: u8, source: SourceId, said: Said) {
+        if let Some(item) = said.item() {
+            self.add(source, ItemWord::of_item(&item));
         }
     }
 

@@ -16,13 +16,12 @@ ghost use Rattle.capture_actions.specs.Guesses.{guess_by};
 ghost use Rattle.capture_actions.specs.Listing.{is_listed, itm_packets, remark_of};
 ghost use Rattle.capture_actions.specs.SourceClocks.{AllStand, without};
 
-use crate::filter::Filter;
+use crate::filter::{ContentKind, Filter};
 use crate::plan_table::{PlanTable, sends_stp};
 use crate::source_clocks::SourceClocks;
-use item_tap::{Bounds, Choices, Content, is_stamp};
+use item_tap::{Bounds, Choices, is_stamp};
 use itm_grammar::packet::ItmPacket;
 use source_events::{Event, Packet, Plan, RunBytes, SourceKind, Stop, What};
-use source_machine::Told;
 use source_merge::Receiver;
 use stp_grammar::said::Said;
 use trace_stream::{OUTLET_ROOM, Outlet, TEXT_ROOM};
@@ -272,9 +271,8 @@ impl Lister {
     }
 
     /// Takes the next item of this source, which is that of what a packet says, and puts its line, if it is listed,
-    /// from its parts. It is kept out of line: in line, `give_told` would be too large to go into the loop over ITM
-    /// packets.
-    #[inline(never)]
+    /// from its parts, which need not be in memory.
+    #[inline(always)]
     fn put_said(&mut self, outlet: &mut Outlet, at: u64, half: u8, source: SourceId, said: Said)
         requires proper { IsProperSaid said }
         requires some { is_some (said_item said) ≡ true }
@@ -285,7 +283,7 @@ impl Lister {
         ensures bound { length outlet.new ≤ length outlet.old + EVENT_ROOM }
     {
         self.clocks.pass();
-        if self.filter.wants(source, Content::Stp) {
+        if self.filter.wants(source, ContentKind::Stp) {
             put_said_line(outlet, &mut self.digits, at, half, source, said);
         }
     }
@@ -300,7 +298,7 @@ impl Lister {
         ensures bound { length outlet.new ≤ length outlet.old + EVENT_ROOM }
     {
         self.clocks.pass();
-        if self.filter.wants(source, Content::Raw) {
+        if self.filter.wants(source, ContentKind::Raw) {
             put_raw_line(outlet, &mut self.digits, at, source, bytes);
         }
     }
@@ -314,7 +312,7 @@ impl Lister {
         ensures bound { length outlet.new ≤ length outlet.old + EVENT_ROOM }
     {
         self.clocks.pass();
-        if self.filter.wants(source, Content::Trigger) {
+        if self.filter.wants(source, ContentKind::Trigger) {
             let event = trigger_of(at, source, byte);
             print(outlet, &mut self.digits, &event, false, Remark::None);
         }
@@ -401,11 +399,20 @@ impl Receiver for Lister {
     }
 
     #[inline(always)]
-    fn give_told(&mut self, outlet: &mut Outlet, at: u64, half: u8, source: SourceId, told: Told) {
-        match told {
-            Told::Itm(packet) => self.put_own_itm(outlet, at, half, source, packet),
-            Told::Stp(said) => self.put_said(outlet, at, half, source, said),
-        }
+    fn give_itm(
+        &mut self,
+        outlet: &mut Outlet,
+        at: u64,
+        half: u8,
+        source: SourceId,
+        packet: ItmPacket,
+    ) {
+        self.put_own_itm(outlet, at, half, source, packet);
+    }
+
+    #[inline(always)]
+    fn give_said(&mut self, outlet: &mut Outlet, at: u64, half: u8, source: SourceId, said: Said) {
+        self.put_said(outlet, at, half, source, said);
     }
 
     #[inline(always)]

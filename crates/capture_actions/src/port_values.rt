@@ -8,8 +8,8 @@ ghost use Rattle.capture_actions.specs.PortText.{value_of};
 
 use itm_grammar::packet::{ItmPacket, Size};
 use source_events::{Event, Packet, SourceKind, What};
-use source_machine::Told;
 use source_merge::Receiver;
+use stp_grammar::said::Said;
 use trace_stream::{OUTLET_ROOM, Outlet};
 use trace_values::SourceId;
 
@@ -102,18 +102,26 @@ impl Receiver for PortValues {
     }
 
     #[inline(always)]
-    fn give_told(
+    fn give_itm(
         &mut self,
         outlet: &mut Outlet,
         _at: u64,
         _half: u8,
         source: SourceId,
-        told: Told,
+        packet: ItmPacket,
     ) {
-        if let Told::Itm(packet) = told {
-            self.put_packet(outlet, Some(source), &packet);
-        }
+        self.put_packet(outlet, Some(source), &packet);
     }
+
+    #[inline(always)]
+    fn give_said(
+        &mut self,
+        _outlet: &mut Outlet,
+        _at: u64,
+        _half: u8,
+        _source: SourceId,
+        _said: Said,
+    ) {}
 
     #[inline(always)]
     fn give_raw(&mut self, _outlet: &mut Outlet, _at: u64, _source: SourceId, _bytes: &[u8]) {}

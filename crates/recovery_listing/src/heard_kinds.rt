@@ -11,6 +11,7 @@ ghost use Rattle.recovering_machines.specs.Hearing.{HeardFits, as_strict};
 ghost use Rattle.recovery_listing.specs.HeardKinds.{word_by};
 ghost use Rattle.recovery_listing.specs.Listing.{seen_in};
 
+use crate::told::give_told;
 use capture_actions::{ItemWord, KindCounts};
 use recovering_machines::Hearer;
 use recovery_engine::HeardCounts;
@@ -124,7 +125,7 @@ impl Hearer for HeardKinds {
 
     #[inline(always)]
     fn hear_told(&mut self, to: &mut (), at: u64, half: u8, source: SourceId, told: Told) {
-        self.kinds.give_told(to, at, half, source, told);
+        give_told(&mut self.kinds, to, at, half, source, told);
         self.heard.hear_told(to, at, half, source, told);
     }
 

@@ -15,6 +15,7 @@ mod noting;
 mod recovering;
 mod show;
 mod text;
+mod told;
 mod vcd;
 
 pub use account::Account;

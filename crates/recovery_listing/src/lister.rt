@@ -18,6 +18,7 @@ ghost use Rattle.capture_actions.specs.Listing.{itm_packet};
 ghost use Rattle.capture_actions.specs.SourceClocks.{AllStand};
 ghost use Rattle.recovery_listing.specs.Near.{guess_clocked_by};
 
+use crate::told::give_told;
 use capture_actions::{Lister, SourceClocks};
 use item_tap::{Bounds, Choices};
 use recovering_machines::Hearer;
@@ -189,7 +190,7 @@ impl Hearer for RecoveringLister {
     #[inline(always)]
     fn hear_told(&mut self, outlet: &mut Outlet, at: u64, half: u8, source: SourceId, told: Told) {
         take_told(&mut self.guess_clocks, source, &told);
-        self.lister.give_told(outlet, at, half, source, told);
+        give_told(&mut self.lister, outlet, at, half, source, told);
     }
 
     #[inline(always)]

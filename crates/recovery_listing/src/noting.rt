@@ -9,6 +9,7 @@ ghost use Rattle.recovery_listing.specs.Account.{TakesOn};
 ghost use Rattle.recovery_listing.specs.Noting.{NotesGets, is_misread, loser_of};
 
 use crate::lister::strictly;
+use crate::told::give_told;
 use itm_grammar::packet::ItmPacket;
 use recovering_machines::Hearer;
 use recovery_engine::Recovery;
@@ -166,7 +167,7 @@ impl<R: Receiver<To = Outlet>> Hearer for Noting<R> {
 
     #[inline(always)]
     fn hear_told(&mut self, outlet: &mut Outlet, at: u64, half: u8, source: SourceId, told: Told) {
-        self.receiver.give_told(outlet, at, half, source, told);
+        give_told(&mut self.receiver, outlet, at, half, source, told);
     }
 
     #[inline(always)]

@@ -7,7 +7,7 @@ use Rattle.std.specs.Int.{byte_at}
 use Rattle.std.proofs.Math.Nat.{pow-zero}
 use Rattle.hex.specs.Hex.{encode_lower}
 use Rattle.stp_grammar.specs.declared.packet.Row.{Row}
-use Rattle.stp_grammar.specs.declared.packet.Row.TheVariants.{Datum, Flag, NullStamp, Trigger, MasterError, GlobalError, Frequency}
+use Rattle.stp_grammar.specs.declared.packet.Row.TheVariants.{Datum, Flag, NullStamp, Trigger, MasterError, GlobalError, Frequency, Null, Master8, Channel8, Master16, Channel16, Version}
 use Rattle.stp_grammar.specs.declared.item.Place.{Place}
 use Rattle.stp_grammar.specs.declared.item.Stamp.{Stamp}
 use Rattle.stp_grammar.specs.declared.item.StpItem.{StpItem}
@@ -61,6 +61,23 @@ told_text place stamp n v e h = by (n == 35) refl e where
       cond t (codes "async") (word_at (row_at n)) ++ rest place stamp (row_at n) v ≡ said_text (cond t (Some AsyncItem) (item_with place stamp (row_at n) v))
   by true k w = ap (λ (m : ℕ). codes "async" ++ rest place stamp (row_at m) v) (let q : n ≡ 35 = grind (arith, nat_tests) in q)
   by false k w = written_text place stamp (row_at n) v w h
+
+-- of the others only a VERSION has an item
+pub version_only : (place : Place) (stamp : Stamp) (row : Row) (v : ℕ) → is_written row ≡ false →
+    is_some (item_with place stamp row v) ≡ true → row ≡ Version
+version_only place stamp (Datum width marked stamped) v w e = cc
+version_only place stamp (Flag stamped) v w e = cc
+version_only place stamp NullStamp v w e = cc
+version_only place stamp (Trigger stamped) v w e = cc
+version_only place stamp (Frequency stamped) v w e = cc
+version_only place stamp MasterError v w e = cc
+version_only place stamp GlobalError v w e = cc
+version_only place stamp Null v w e = cc
+version_only place stamp Master8 v w e = cc
+version_only place stamp Channel8 v w e = cc
+version_only place stamp Master16 v w e = cc
+version_only place stamp Channel16 v w e = cc
+version_only place stamp Version v w e = refl
 
 -- a line by its parts
 pub line_by : (at half id : ℕ) (o : Option StpItem) → is_some o ≡ true →

@@ -6,7 +6,7 @@ ghost use Rattle.std.specs.Prelude.{◌≡◌, ◌+◌, ◌*◌, ◌/◌, ◌^�
 ghost use Rattle.std.specs.Option.{is_some};
 ghost use Rattle.stp_grammar.specs.Opcodes.{line_of, row_at};
 ghost use Rattle.stp_grammar.specs.Said.{said_item, IsProperSaid};
-ghost use Rattle.stp_grammar.specs.declared.item.StpItem.{StpItem};
+ghost use Rattle.stp_grammar.specs.declared.item.StpItem.TheVariants.{Version};
 ghost use Rattle.trace_text.specs.Digits.{hundreds_of, place_of};
 ghost use Rattle.trace_text.specs.LineText.{event_line, stp_event};
 ghost use Rattle.trace_text.specs.SaidText.{is_told, is_placed, is_counted, is_late, is_timed};
@@ -23,6 +23,7 @@ use crate::said_tables::{
     WORDS, WRITTEN,
 };
 use crate::stp::{put_nibbles, put_stamp_times};
+use stp_grammar::item::StpItem;
 use stp_grammar::said::{ASYNC, Said};
 use trace_stream::{OUTLET_ROOM, Outlet, TEXT_ROOM, Text};
 use trace_values::SourceId;
@@ -146,32 +147,29 @@ impl Text for SaidLine<'_> {
     }
 }
 
-/// Puts the line of what a packet says that has an item and is not put by its row, as that of the item. It is kept out
-/// of line, so that an item is in memory only here.
+/// Puts the line of a VERSION of this STP source, which ends in this half of the byte at this offset. It is kept out of
+/// line, and is given numbers alone, so that no item is in memory but here.
 #[inline(never)]
-fn put_item_line(
+fn put_version_line(
     outlet: &mut Outlet,
     digits: &mut Digits,
     at: u64,
     half: u8,
     id: SourceId,
-    said: Said,
+    version: u8,
 )
-    requires proper { IsProperSaid said }
-    requires some { is_some (said_item said) ≡ true }
+    requires proper { version < 16 }
     requires room { length outlet.old + TEXT_ROOM ≤ OUTLET_ROOM }
-    ensures line { (item : StpItem) → said_item said ≡ Some item →
-        outlet.new ≡ outlet.old ++ event_line true (stp_event at half id item) NoRemark }
+    ensures line { outlet.new ≡ outlet.old ++ event_line true (stp_event at half id (Version version)) NoRemark }
     ensures bound { length outlet.new ≤ length outlet.old + EVENT_ROOM }
 {
-    if let Some(item) = said.item() {
-        put_stp_line(outlet, digits, at, half, id, item);
-    }
+    put_stp_line(outlet, digits, at, half, id, StpItem::Version(version));
 }
 
 /// Puts the line of what a packet of this STP source says, which has an item, and ends in this half of the byte at
 /// this offset. It is what `print` puts for the event of that item, neither of which is made where the line is put by
-/// its row. The digits of the offset and the text of a place are kept for the next line.
+/// its row: of the others only a VERSION has an item. The digits of the offset and the text of a place are kept for the
+/// next line.
 #[inline(always)]
 pub fn put_said_line(
     outlet: &mut Outlet,
@@ -189,7 +187,7 @@ pub fn put_said_line(
     ensures bound { length outlet.new ≤ length outlet.old + EVENT_ROOM }
 {
     if !is_written(said.number) {
-        put_item_line(outlet, digits, at, half, id, said);
+        put_version_line(outlet, digits, at, half, id, said.payload as u8);
         return;
     }
     few_digits(at);

@@ -1,7 +1,7 @@
 //! What puts the value dump of one source into an outlet, as the events of a capture come.
 
 ghost use Rattle.std.specs.Prelude.{◌≡◌, ◌+◌, ◌<◌, ◌≤◌, ◌∷◌, ◌++◌, [], length, false, if◌then◌else◌};
-ghost use Rattle.source_events.specs.declared.event.What.TheVariants.{Packet as Said};
+ghost use Rattle.source_events.specs.declared.event.What.TheVariants.{Packet as GivenPacket};
 ghost use Rattle.value_dump.specs.Dumping.{hz_of, owed_by};
 ghost use Rattle.value_dump.specs.Header.{header};
 ghost use Rattle.value_dump.specs.Names.{ACTION_ROOM, Event, IsProper, Itm, OUTLET_ROOM, Packet};
@@ -13,8 +13,8 @@ use crate::dump::{PACKET_ROOM, ValueDump};
 use crate::header::put_header;
 use itm_grammar::packet::ItmPacket;
 use source_events::{Event, Packet, SourceKind, What};
-use source_machine::Told;
 use source_merge::Receiver;
+use stp_grammar::said::Said;
 use trace_stream::{OUTLET_ROOM, Outlet};
 use trace_values::SourceId;
 
@@ -44,7 +44,7 @@ impl SourceDump {
     fn put_packet(&mut self, outlet: &mut Outlet, source: Option<SourceId>, packet: &ItmPacket)
         requires proper { IsProper packet.now }
         requires room { 0 < room (self.old, outlet.old) }
-        ensures gets { (event : Event Packet) → event.source ≡ source → event.what ≡ Said (Itm packet.now) →
+        ensures gets { (event : Event Packet) → event.source ≡ source → event.what ≡ GivenPacket (Itm packet.now) →
             gets (self.old, outlet.old) (event ∷ []) (self.new, outlet.new) }
         ensures room { room (self.old, outlet.old) ≤ room (self.new, outlet.new) + 1 }
     {
@@ -87,18 +87,25 @@ impl Receiver for SourceDump {
         true
     }
 
-    fn give_told(
+    fn give_itm(
         &mut self,
         outlet: &mut Outlet,
         _at: u64,
         _half: u8,
         source: SourceId,
-        told: Told,
+        packet: ItmPacket,
     ) {
-        if let Told::Itm(packet) = told {
-            self.put_packet(outlet, Some(source), &packet);
-        }
+        self.put_packet(outlet, Some(source), &packet);
     }
+
+    fn give_said(
+        &mut self,
+        _outlet: &mut Outlet,
+        _at: u64,
+        _half: u8,
+        _source: SourceId,
+        _said: Said,
+    ) {}
 
     fn give_raw(&mut self, _outlet: &mut Outlet, _at: u64, _source: SourceId, _bytes: &[u8]) {}
 

@@ -8,7 +8,7 @@ use Rattle.recovery_listing.proofs.heard_kinds.HeardKindsHearer.hear_told.Goals 
 pub returns-clause-itm : goal.returns-clause-itm
 returns-clause-itm c = λ packet told. record {
   heard = c.hear_told.ensures.itm packet told;
-  kinds = counted_told c.args.self.now.kinds c.give_told.new.self
+  kinds = counted_told c.args.self.now.kinds c.give_told.new.receiver
       (read_event c.args.source c.args.at c.args.half (Itm packet)) (Said (Itm packet)) refl
       (c.give_told.ensures.itm packet told);
 }
@@ -16,7 +16,7 @@ returns-clause-itm c = λ packet told. record {
 pub returns-clause-stp : goal.returns-clause-stp
 returns-clause-stp c = λ said item told is. record {
   heard = c.hear_told.ensures.stp said item told is;
-  kinds = counted_told c.args.self.now.kinds c.give_told.new.self
+  kinds = counted_told c.args.self.now.kinds c.give_told.new.receiver
       (read_event c.args.source c.args.at c.args.half (Stp item)) (Said (Stp item)) refl
       (c.give_told.ensures.stp said item told is);
 }

@@ -1,4 +1,4 @@
-use Rattle.std.proofs.Common.{◌≡◌, ◌-◌, ◌/◌, ◌%◌, ◌∙◌, ℕ, ap, sym, arith}
+use Rattle.std.proofs.Common.{◌≡◌, ◌-◌, ◌/◌, ◌%◌, ◌∙◌, ℕ, ap, arith}
 use Rattle.std.specs.Prelude.{decimal}
 use Rattle.trace_text.proofs.digits.Digits.keep_anew.Goals as goal
 
