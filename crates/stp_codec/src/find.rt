@@ -135,7 +135,7 @@ impl StpDecoder {
 
     /// Finds at once what the first `count` of these bytes are, wherever they are: they end the unfinished packet, or
     /// all of them are taken. What the bytes after them are is of no account, but there are `WINDOW` of them, more than
-    /// the longest packet has. It is live.
+    /// the longest packet of a row has. It is live.
     ///
     /// A packet that ends is not taken: `end_part` does that, given the same bytes. `Unknown` says nothing of them, and
     /// it stands as before: `take_part` reads them.

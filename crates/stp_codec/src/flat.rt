@@ -16,7 +16,7 @@ use stp_grammar::opcode::{payload_at, stamped_at};
 use trace_clock::word_nibbles;
 
 /// Bytes that are there where a packet is read so, and behind those of which `find_part` finds what they are: more than
-/// the longest packet has.
+/// the longest packet of a row has, and the shortest ASYNC.
 pub const WINDOW: usize = 24;
 
 /// A packet, as numbers.
