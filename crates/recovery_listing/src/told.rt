@@ -17,8 +17,8 @@ use source_merge::Receiver;
 use stp_grammar::said::Said;
 use trace_values::SourceId;
 
-/// Gives what an STP packet says. It is kept out of line: the loop that reads packets of either protocol has ITM packets
-/// in line.
+/// Gives what an STP packet says. It is kept out of line: the loop that reads packets of either protocol has those of
+/// an ITM in line.
 #[inline(never)]
 fn give_said<R: Receiver>(
     receiver: &mut R,
