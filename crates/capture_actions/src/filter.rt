@@ -45,12 +45,13 @@ pub enum ContentKind {
     Trigger,
 }
 
-/// Whether what this source gives meets one of the choices. It is kept out of line, so that it is in memory only here.
+/// Whether this packet of this source meets one of the choices. What a choice sees of it is made only here, and that is
+/// kept out of line.
 #[inline(never)]
-fn hold_in(choices: &Choices, source: SourceId, content: Content) -> bool
-    ensures { result ≡ wants (Some choices.now) (Some source) content }
+fn hold_itm(choices: &Choices, source: SourceId, packet: ItmPacket) -> bool
+    ensures { result ≡ wants (Some choices.now) (Some source) (Itm packet) }
 {
-    choices.hold_in(Some(source), &content)
+    choices.hold_in(Some(source), &Content::Itm(packet))
 }
 
 /// Whether what this source gives meets one of the choices. What a choice sees of it is made only here.
@@ -118,7 +119,7 @@ impl Filter {
     {
         match &self.only {
             None => true,
-            Some(choices) => hold_in(choices, source, Content::Itm(*packet)),
+            Some(choices) => hold_itm(choices, source, *packet),
         }
     }
 

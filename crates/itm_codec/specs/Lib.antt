@@ -5,4 +5,5 @@ pub mod Decoder
 pub mod Parts
 pub mod Answers
 pub mod Windows
+pub mod Lengths
 pub mod Hunting

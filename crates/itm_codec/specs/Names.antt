@@ -3,6 +3,7 @@ pub use Rattle.itm_grammar.specs.Proper.{IsProper, first_bits}
 pub use Rattle.itm_grammar.specs.Rule.{count_of, is_sound, rule}
 pub use Rattle.itm_grammar.specs.Shortest.{bytes_of, groups_of, short, shortest_len}
 pub use Rattle.itm_grammar.specs.Spelling.{IsContinued, IsExtended, Spells, bit_of, byte_count, extended, groups}
+pub use Rattle.itm_grammar.specs.Spelling.{more_bit}
 pub use Rattle.itm_grammar.specs.Spelling.{late_bits, number, size_bits, why}
 pub use Rattle.itm_grammar.specs.declared.packet.ItmPacket.{ItmPacket}
 pub use Rattle.itm_grammar.specs.declared.packet.ItmPacket.TheVariants.{GlobalSecond, Sync}

@@ -176,7 +176,7 @@ impl ItmDecoder {
         }
         let waiting = self.waiting;
         let word = self.word_with(next);
-        match look_in(&word.to_le_bytes(), waiting + count) {
+        match look_in(&word.to_le_bytes(), waiting + count, is_piece) {
             Found::Ends(end) => Found::Ends(ItmEnd {
                 bytes: end.bytes - waiting,
                 packet: end.packet,
@@ -199,7 +199,7 @@ impl ItmDecoder {
         requires fresh { self.old.waiting ≡ 0 }
         ensures { Looked self.old self.new _ahead.now count result }
     {
-        match look_in(next, count) {
+        match look_in(next, count, true) {
             Found::Ends(end) => Found::Ends(end),
             Found::Waits => {
                 let word = self.word_with(next);
@@ -233,9 +233,10 @@ impl ItmDecoder {
         self.held = 0;
     }
 
-    /// Takes the packet that `find_part` found in these bytes, up to the one that ends it. It is live.
+    /// Takes the packet that `find_part` found in these bytes, up to the one that ends it. It is live. What waited is
+    /// forgotten, which is faster without a question, but in a piece, of which it is known that mostly no bytes wait.
     #[inline(always)]
-    pub fn end_part(&mut self, _ahead: &[u8], end: ItmEnd) -> TakenAtOnce<ItmPacket>
+    pub fn end_part(&mut self, _ahead: &[u8], end: ItmEnd, is_piece: bool) -> TakenAtOnce<ItmPacket>
         requires live { is_live self.old ≡ true }
         requires ends { EndsPart self.old _ahead.now end }
         ensures taken { result ≡ record { bytes = end.bytes; half = 0; item = Some end.packet } }
@@ -246,7 +247,9 @@ impl ItmDecoder {
             (item_at last.place.half (Some end.packet)) }
         ensures few { held_of self.new ≡ 0 }
     {
-        self.forget();
+        if !is_piece || self.waiting > 0 {
+            self.forget();
+        }
         TakenAtOnce {
             bytes: end.bytes,
             half: 0,
@@ -404,13 +407,13 @@ fn next_in(ahead: &[u8]) -> &[u8; AHEAD]
     ahead[..AHEAD].first_chunk::<AHEAD>().unwrap()
 }
 
-/// What the first `count` of these bytes are to a packet whose first byte is the first of them. What the bytes after
-/// the first `count` are is of no account.
+/// What the first `count` of these bytes are to a packet whose first byte is the first of them, be they of a piece or
+/// not. What the bytes after the first `count` are is of no account.
 #[inline(always)]
-fn look_in(window: &[u8; WINDOW], count: usize) -> Found<ItmEnd>
+fn look_in(window: &[u8; WINDOW], count: usize, is_piece: bool) -> Found<ItmEnd>
     ensures { IsSeen window.now count result }
 {
-    match packet_in(window) {
+    match packet_in(window, is_piece) {
         InWindow::Packet { bytes, packet } if bytes <= count => Found::Ends(ItmEnd {
             bytes,
             packet,

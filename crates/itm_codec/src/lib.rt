@@ -8,6 +8,7 @@ mod encoder;
 mod front;
 mod hunt;
 pub mod laws;
+mod lengths;
 mod sync;
 mod whole;
 

@@ -1,15 +1,19 @@
 //! Packets whose bytes are all there, read as one word (ARMv7-M Architecture Reference Manual, Arm DDI 0403E, appendix
 //! D4 'Debug ITM and DWT Packet Protocol', section D4.2 'Packet descriptions').
 //!
-//! They are read so for speed alone: the decoder reads byte by byte what is not found here.
+//! They are read so for speed alone: the decoder reads byte by byte what is not found here. How many bytes a packet has
+//! is told by tables, with no branch on its kind. So a call that only counts packets never asks what they are, and
+//! kinds that change without a pattern do not hold it up.
 
 ghost use Rattle.std.specs.Prelude.{◌≡◌, [], ◌+◌, ◌*◌, ◌/◌, ◌%◌, ◌^◌, ◌<◌, ◌≤◌, ◌∷◌, ℕ, List, length, take, drop};
-ghost use Rattle.std.specs.Prelude.{slice_index, IfSome, All, None};
-ghost use Rattle.itm_codec.specs.Names.{Spells, IsExtended, extended, IsContinued, groups, late_bits, byte_count};
+ghost use Rattle.std.specs.Prelude.{slice_index};
+ghost use Rattle.itm_codec.specs.Names.{Spells, groups, late_bits, byte_count};
 ghost use Rattle.itm_codec.specs.Names.{size_bits, number, IsProper, Sync};
+ghost use Rattle.itm_codec.specs.Lengths.{IsTold, groups_behind};
 ghost use Rattle.itm_codec.specs.Windows.{IsFound, four_bytes};
 ghost use Rattle.itm_codec.specs.declared.whole.InWindow.TheVariants.{Packet};
 
+use crate::lengths::{groups_bytes, length_in, source_length};
 use itm_grammar::packet::{ItmPacket, Lateness, Size};
 
 /// How many bytes are read as one word.
@@ -25,45 +29,67 @@ pub enum InWindow {
 }
 
 /// The packet that these bytes begin with, where they have all of it.
+///
+/// The answer is the same whether they are of a piece or not. In a piece mostly source packets follow one another:
+/// there it is faster to ask for one first, and in frames, where packets of all kinds do, to ask for none.
 #[inline(always)]
-pub fn packet_in(window: &[u8; WINDOW]) -> InWindow
+pub fn packet_in(window: &[u8; WINDOW], is_piece: bool) -> InWindow
     ensures { IsFound window.now result }
 {
     let header = window[0];
-    if header % 4 == 0 {
-        other_in(header, window)
+    if is_piece && header % 4 > 0 {
+        return InWindow::Packet {
+            bytes: source_length(header % 4),
+            packet: source_in(header, four_in(window)),
+        };
+    }
+    let bytes = length_in(window);
+    if bytes > 0 {
+        InWindow::Packet {
+            bytes,
+            packet: packet_of(window, bytes),
+        }
     } else {
-        source_in(header, payload_in(window))
+        sync_in(window)
     }
 }
 
 /// The four bytes after the header.
 #[inline(always)]
-fn payload_in(window: &[u8; WINDOW]) -> u32
+fn four_in(window: &[u8; WINDOW]) -> u32
     ensures { four_bytes result ≡ take 4 (drop 1 window.now) }
 {
     ((u64::from_le_bytes(*window) >> 8u32) % 0x1_0000_0000) as u32
 }
 
-/// The software or hardware packet of this header, which is that of one, and of the payload that begins with these four
-/// bytes.
+/// The packet of so many bytes that these begin with, as the tables tell.
 #[inline(always)]
-fn source_in(header: u8, payload: u32) -> InWindow
-    requires { 0 < header % 4 }
-    ensures { IsFound (header ∷ four_bytes payload) result }
+fn packet_of(window: &[u8; WINDOW], bytes: usize) -> ItmPacket
+    requires told { IsTold window.now bytes }
+    ensures { IsFound window.now (Packet bytes result) }
 {
-    let code = header % 4;
-    InWindow::Packet {
-        bytes: 1 + count_of(code),
-        packet: source_of(header, size_of(code), value_in(code, payload)),
+    let header = window[0];
+    if header % 4 == 0 {
+        other_of(header, window, bytes)
+    } else {
+        source_in(header, four_in(window))
     }
 }
 
-/// The sizes by their codes. What these tables have for 0 is of no account: no size has it.
-const SIZES: &[Size] = &[Size::One, Size::One, Size::Two, Size::Four];
+/// The software or hardware packet of this header, which is that of one, and of the payload that begins with these four
+/// bytes.
+#[inline(always)]
+fn source_in(header: u8, payload: u32) -> ItmPacket
+    requires { 0 < header % 4 }
+    ensures { IsFound (header ∷ four_bytes payload) (Packet (1 + (header % 4 + header % 4 / 3)) result) }
+{
+    let code = header % 4;
+    source_of(header, size_of(code), value_in(code, payload))
+}
 
-/// How many bytes a value of the size with each code has, and the bits of all of them.
-const COUNTS: &[u8] = &[0, 1, 2, 4];
+/// The sizes by their codes, and all bits of a value of each size. What these tables have for 0 is of no account: no
+/// size has it.
+const SIZES: &[Size] = &[Size::One, Size::One, Size::Two, Size::Four];
 
 const VALUES: &[u32] = &[0, 0xFF, 0xFFFF, 0xFFFF_FFFF];
 
@@ -75,16 +101,6 @@ fn size_of(code: u8) -> Size
 {
     let sizes = SIZES;
     sizes[code as usize]
-}
-
-/// How many bytes a value of the size with this code has.
-#[inline(always)]
-fn count_of(code: u8) -> usize
-    requires { (0 < code) × (code < 4) }
-    ensures { result ≡ code + code / 3 }
-{
-    let counts = COUNTS;
-    counts[code as usize] as usize
 }
 
 /// The value of the size with this code, where the payload begins with these four bytes.
@@ -122,61 +138,176 @@ fn source_of(header: u8, size: Size, value: u32) -> ItmPacket
     }
 }
 
-/// The packet that these bytes begin with, whose first is this header, which is not that of a source packet.
+/// The packet of so many bytes that these begin with, as the tables tell. The first of them is this header, which is
+/// not that of a source packet.
 #[inline(always)]
-fn other_in(header: u8, window: &[u8; WINDOW]) -> InWindow
+fn other_of(header: u8, window: &[u8; WINDOW], bytes: usize) -> ItmPacket
     requires header { header ≡ slice_index window.now 0 }
     requires kind { header % 4 ≡ 0 }
-    ensures { IsFound window.now result }
+    requires told { IsTold window.now bytes }
+    ensures { IsFound window.now (Packet bytes result) }
 {
     match header % 16 {
-        0 => local_in(header, window),
-        4 => global_in(header, window),
-        _ => extension_in(header, window),
+        0 => local_of(header, window, bytes),
+        4 => global_of(header, window, bytes),
+        _ => extension_of(header, window, bytes),
     }
 }
 
-/// The local timestamp, overflow or synchronisation with this header that these bytes begin with.
+/// The local timestamp or overflow of so many bytes that these begin with, as the tables tell.
 #[inline(always)]
-fn local_in(header: u8, window: &[u8; WINDOW]) -> InWindow
+fn local_of(header: u8, window: &[u8; WINDOW], bytes: usize) -> ItmPacket
     requires header { header ≡ slice_index window.now 0 }
     requires kind { header % 16 ≡ 0 }
-    ensures { IsFound window.now result }
+    requires told { IsTold window.now bytes }
+    ensures { IsFound window.now (Packet bytes result) }
 {
-    if header == 0 {
-        sync_in(window)
-    } else if header < 0xC0 {
-        short_local(header)
+    if header < 0x70 {
+        ItmPacket::Local {
+            lateness: Lateness::Exact,
+            delta: u32::from(header / 16),
+        }
+    } else if header == 0x70 {
+        ItmPacket::Overflow
     } else {
-        long_local(header, payload_in(window))
+        long_local(header, window, bytes)
     }
 }
 
-/// The global timestamp with this header that these bytes begin with.
+/// The global timestamp of so many bytes that these begin with, as the tables tell.
 #[inline(always)]
-fn global_in(header: u8, window: &[u8; WINDOW]) -> InWindow
+fn global_of(header: u8, window: &[u8; WINDOW], bytes: usize) -> ItmPacket
     requires header { header ≡ slice_index window.now 0 }
-    ensures { IsFound window.now result }
+    requires kind { header % 16 ≡ 4 }
+    requires told { IsTold window.now bytes }
+    ensures { IsFound window.now (Packet bytes result) }
 {
-    match header {
-        0x94 => first_global(payload_in(window)),
-        0xB4 => second_global(window),
-        _ => InWindow::Other,
+    if header == 0x94 {
+        first_global(window, bytes)
+    } else {
+        second_global(window, bytes)
     }
 }
 
-/// The extension packet with this header that these bytes begin with.
+/// The extension packet of so many bytes that these begin with, as the tables tell.
 #[inline(always)]
-fn extension_in(header: u8, window: &[u8; WINDOW]) -> InWindow
+fn extension_of(header: u8, window: &[u8; WINDOW], bytes: usize) -> ItmPacket
     requires header { header ≡ slice_index window.now 0 }
     requires kind { (header % 4 ≡ 0) × ((header / 8) % 2 ≡ 1) }
-    ensures { IsFound window.now result }
+    requires told { IsTold window.now bytes }
+    ensures { IsFound window.now (Packet bytes result) }
 {
     if header < 0x80 {
-        short_extension(header)
+        ItmPacket::Extension {
+            dwt: (header / 4) % 2 == 1,
+            value: u32::from(header / 16),
+        }
     } else {
-        long_extension(header, payload_in(window))
+        long_extension(header, window, bytes)
     }
+}
+
+/// The long local timestamp of so many bytes that these begin with, as the tables tell.
+#[inline(always)]
+fn long_local(header: u8, window: &[u8; WINDOW], _bytes: usize) -> ItmPacket
+    requires header { header ≡ slice_index window.now 0 }
+    requires kind { (112 < header) × (header % 16 ≡ 0) }
+    requires told { IsTold window.now _bytes }
+    ensures { IsFound window.now (Packet _bytes result) }
+{
+    ItmPacket::Local {
+        lateness: lateness_of(header),
+        delta: groups_in(window),
+    }
+}
+
+/// How late the long local timestamp of this header is.
+#[inline]
+fn lateness_of(header: u8) -> Lateness
+    requires { (192 ≤ header) × (header % 16 ≡ 0) }
+    ensures { header ≡ 192 + 16 * late_bits result }
+{
+    match header / 16 {
+        12 => Lateness::Exact,
+        13 => Lateness::StampLate,
+        14 => Lateness::PacketLate,
+        _ => Lateness::BothLate,
+    }
+}
+
+/// The first global timestamp of so many bytes that these begin with, as the tables tell. A fourth byte after the
+/// header has the time's last five bits, then clock change, then wrap.
+#[inline(always)]
+fn first_global(window: &[u8; WINDOW], bytes: usize) -> ItmPacket
+    requires header { slice_index window.now 0 ≡ 148 }
+    requires told { IsTold window.now bytes }
+    ensures { IsFound window.now (Packet bytes result) }
+{
+    let value = groups_in(window);
+    ItmPacket::GlobalFirst {
+        len: (bytes - 1) as u8,
+        value: value % 0x400_0000,
+        change: (value / 0x400_0000) % 2 == 1,
+        wrap: (value / 0x800_0000) % 2 == 1,
+    }
+}
+
+/// The second global timestamp of so many bytes that these begin with, as the tables tell: its payload is four bytes
+/// with 22 bits of the time, or six with 38.
+#[inline(always)]
+fn second_global(window: &[u8; WINDOW], bytes: usize) -> ItmPacket
+    requires header { slice_index window.now 0 ≡ 180 }
+    requires told { IsTold window.now bytes }
+    ensures { IsFound window.now (Packet bytes result) }
+{
+    let low = u64::from(without_bits(four_in(window)));
+    if bytes == 5 {
+        ItmPacket::GlobalSecond {
+            wide: false,
+            value: low % 0x40_0000,
+        }
+    } else {
+        let high = u64::from(window[5] % 128) + 128 * u64::from(window[6] % 8);
+        ItmPacket::GlobalSecond {
+            wide: true,
+            value: low + 0x1000_0000 * high,
+        }
+    }
+}
+
+/// The long extension packet of so many bytes that these begin with, as the tables tell. A fourth byte after the
+/// header has eight bits.
+#[inline(always)]
+fn long_extension(header: u8, window: &[u8; WINDOW], _bytes: usize) -> ItmPacket
+    requires header { header ≡ slice_index window.now 0 }
+    requires kind { (128 ≤ header) × (header % 4 ≡ 0) × ((header / 8) % 2 ≡ 1) }
+    requires told { IsTold window.now _bytes }
+    ensures { IsFound window.now (Packet _bytes result) }
+{
+    let kept = groups_bytes(window);
+    let high = without_bits(kept) + 0x1000_0000 * (kept / 0x8000_0000);
+    ItmPacket::Extension {
+        dwt: (header / 4) % 2 == 1,
+        value: u32::from((header / 16) % 8) + 8 * high,
+    }
+}
+
+/// The number that bits 6 to 0 of the bytes after the header stand for, up to the first whose bit 7 is clear, four at
+/// most, the lowest group first.
+#[inline(always)]
+fn groups_in(window: &[u8; WINDOW]) -> u32
+    ensures value { result ≡ groups (take 4 (groups_behind window.now)) }
+    ensures fits { result < 2 ^ 28 }
+{
+    without_bits(groups_bytes(window))
+}
+
+/// The number that bits 6 to 0 of these four bytes stand for, the lowest group first.
+#[inline(always)]
+fn without_bits(kept: u32) -> u32
+    ensures { result ≡ groups (four_bytes kept) }
+{
+    (kept & 0x7F) + (kept / 2 & 0x3F80) + (kept / 4 & 0x1F_C000) + (kept / 8 & 0xFE0_0000)
 }
 
 /// The synchronisation that these bytes begin with, of six bytes, seven or eight.
@@ -204,185 +335,5 @@ fn sync_of(bytes: usize) -> InWindow
     InWindow::Packet {
         bytes,
         packet: ItmPacket::Sync,
-    }
-}
-
-/// The packet that is this header alone: a short local timestamp or an overflow.
-#[inline(always)]
-fn short_local(header: u8) -> InWindow
-    requires { (0 < header) × (header % 16 ≡ 0) }
-    ensures { IsFound (header ∷ []) result }
-{
-    if header < 0x70 {
-        InWindow::Packet {
-            bytes: 1,
-            packet: ItmPacket::Local {
-                lateness: Lateness::Exact,
-                delta: u32::from(header / 16),
-            },
-        }
-    } else if header == 0x70 {
-        InWindow::Packet {
-            bytes: 1,
-            packet: ItmPacket::Overflow,
-        }
-    } else {
-        InWindow::Other
-    }
-}
-
-/// The short extension packet that is this header alone.
-#[inline(always)]
-fn short_extension(header: u8) -> InWindow
-    requires { (header < 128) × (header % 4 ≡ 0) × ((header / 8) % 2 ≡ 1) }
-    ensures { IsFound (header ∷ []) result }
-{
-    InWindow::Packet {
-        bytes: 1,
-        packet: ItmPacket::Extension {
-            dwt: (header / 4) % 2 == 1,
-            value: u32::from(header / 16),
-        },
-    }
-}
-
-/// The long local timestamp of this header and of the payload that begins with these four bytes.
-#[inline(always)]
-fn long_local(header: u8, payload: u32) -> InWindow
-    requires { (192 ≤ header) × (header % 16 ≡ 0) }
-    ensures { IsFound (header ∷ four_bytes payload) result }
-{
-    match groups_in(payload) {
-        Some((bytes, delta)) => InWindow::Packet {
-            bytes: 1 + bytes,
-            packet: ItmPacket::Local {
-                lateness: lateness_of(header),
-                delta,
-            },
-        },
-        None => InWindow::Other,
-    }
-}
-
-/// How late the long local timestamp of this header is.
-#[inline]
-fn lateness_of(header: u8) -> Lateness
-    requires { (192 ≤ header) × (header % 16 ≡ 0) }
-    ensures { header ≡ 192 + 16 * late_bits result }
-{
-    match header / 16 {
-        12 => Lateness::Exact,
-        13 => Lateness::StampLate,
-        14 => Lateness::PacketLate,
-        _ => Lateness::BothLate,
-    }
-}
-
-/// The first global timestamp of the payload that begins with these four bytes. A fourth byte has the time's last five
-/// bits, then clock change, then wrap.
-#[inline(always)]
-fn first_global(payload: u32) -> InWindow
-    ensures { IsFound (148 ∷ four_bytes payload) result }
-{
-    match groups_in(payload) {
-        Some((bytes, value)) => InWindow::Packet {
-            bytes: 1 + bytes,
-            packet: ItmPacket::GlobalFirst {
-                len: bytes as u8,
-                value: value % 0x400_0000,
-                change: (value / 0x400_0000) % 2 == 1,
-                wrap: (value / 0x800_0000) % 2 == 1,
-            },
-        },
-        None => InWindow::Other,
-    }
-}
-
-/// The second global timestamp that these bytes begin with: its payload is four bytes with 22 bits of the time, or six
-/// with 38.
-#[inline(always)]
-fn second_global(window: &[u8; WINDOW]) -> InWindow
-    requires { slice_index window.now 0 ≡ 180 }
-    ensures { IsFound window.now result }
-{
-    let word = u64::from_le_bytes(*window);
-    let low = u64::from(without_bits(payload_in(window)));
-    if word & 0x80_8080_8000 == 0x8080_8000 {
-        InWindow::Packet {
-            bytes: 5,
-            packet: ItmPacket::GlobalSecond {
-                wide: false,
-                value: low % 0x40_0000,
-            },
-        }
-    } else if word & 0x80_8080_8080_8000 == 0x8080_8080_8000 {
-        let high = u64::from(window[5] % 128) + 128 * u64::from(window[6] % 8);
-        InWindow::Packet {
-            bytes: 7,
-            packet: ItmPacket::GlobalSecond {
-                wide: true,
-                value: low + 0x1000_0000 * high,
-            },
-        }
-    } else {
-        InWindow::Other
-    }
-}
-
-/// The payload that begins these four bytes: how many they are, and the number that their bits 6 to 0 stand for, the
-/// lowest group first. Bit 7 says that another byte follows. None where all four of them say so.
-#[inline(always)]
-fn groups_in(payload: u32) -> Option<(usize, u32)>
-    ensures bytes { IfSome result (λ x. (0 < x.0) × (x.0 ≤ 4)) }
-    ensures continued { IfSome result (λ x. IsContinued (take x.0 (four_bytes payload))) }
-    ensures number { IfSome result (λ x. x.1 ≡ groups (take x.0 (four_bytes payload))) }
-    ensures fits { IfSome result (λ x. x.1 < 128 ^ x.0) }
-    ensures none { result ≡ None → All (λ byte. 128 ≤ byte) (four_bytes payload) }
-{
-    let ends = (0xFFFF_FFFF - payload) & 0x8080_8080;
-    if ends == 0 {
-        return None;
-    }
-    let last = ends & (0xFFFF_FFFF - (ends - 1));
-    let bytes = ends.trailing_zeros() as usize / 8 + 1;
-    Some((bytes, without_bits(payload & (last - 1))))
-}
-
-/// The number that bits 6 to 0 of these four bytes stand for, the lowest group first.
-#[inline(always)]
-fn without_bits(kept: u32) -> u32
-    ensures { result ≡ groups (four_bytes kept) }
-{
-    (kept & 0x7F) + (kept / 2 & 0x3F80) + (kept / 4 & 0x1F_C000) + (kept / 8 & 0xFE0_0000)
-}
-
-/// The extension packet of this header and of the payload that begins with these four bytes. A fourth byte has eight
-/// bits.
-#[inline(always)]
-fn long_extension(header: u8, payload: u32) -> InWindow
-    requires { (128 ≤ header) × (header % 4 ≡ 0) × ((header / 8) % 2 ≡ 1) }
-    ensures { IsFound (header ∷ four_bytes payload) result }
-{
-    match groups_in(payload) {
-        Some((bytes, high)) => extension_of(header, bytes, high),
-        None => extension_of(header, 4, without_bits(payload) + 0x1000_0000),
-    }
-}
-
-/// The extension packet of this header, whose payload is so many bytes and stands for this number.
-#[inline(always)]
-fn extension_of(header: u8, bytes: usize, high: u32) -> InWindow
-    requires header { (128 ≤ header) × (header % 4 ≡ 0) × ((header / 8) % 2 ≡ 1) }
-    requires bytes { (0 < bytes) × (bytes ≤ 4) }
-    requires fits { high < 536870912 }
-    ensures { (payload : List ℕ) → bytes ≤ length payload → IsExtended (take bytes payload) →
-        extended (take bytes payload) ≡ high → IsFound (header ∷ payload) result }
-{
-    InWindow::Packet {
-        bytes: 1 + bytes,
-        packet: ItmPacket::Extension {
-            dwt: (header / 4) % 2 == 1,
-            value: u32::from((header / 16) % 8) + 8 * high,
-        },
     }
 }

@@ -109,7 +109,7 @@ fn take_packets<M: Finds, R: Run, V: Hearer>(
             run.is_piece(),
         ) {
             Found::Ends(parts) => {
-                let taken = machine.end(&ahead[done..], parts);
+                let taken = machine.end(&ahead[done..], parts, run.is_piece());
                 done += taken.bytes;
                 hear_found(id, run.cell(done - 1).at, taken, out, to);
             }

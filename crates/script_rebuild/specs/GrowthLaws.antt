@@ -79,7 +79,8 @@ module _ (plan : Plan) (xs ys : List ℕ) where
 
   so_far_goes : GoesOn plan xs (read_so_far plan (xs ++ ys))
   so_far_goes =
-      subst (λ l. GoesOn plan xs (read_texts plan l)) (sym certain_more) (goes_on certain_later (long_begins next later))
+      let more = goes_on certain_later (long_begins next later) in
+      subst (λ l. GoesOn plan xs (read_texts plan l)) (sym certain_more) more
 
   whole_goes : GoesOn plan xs (script_of plan (xs ++ ys))
   whole_goes =

@@ -150,6 +150,9 @@ routed_front order fault before (line ∷ lines) =
     unplaced : Reading
     unplaced = record { lines = before; fault = Some (length before + 1, Unrouted) }
 
+    fault_if : Bool → Option (ℕ × LineFault)
+    fault_if v = (cond v (routed_on order fault next lines) unplaced).fault
+
     by : (v : Bool) → is_routed order line ≡ v → IsRoutedFront order fault next lines →
         IsRoutedFront order fault before (line ∷ lines)
     by true h more = record {
@@ -159,7 +162,7 @@ routed_front order fault before (line ∷ lines) =
           ∙ append_assoc before (line ∷ []) more.front;
       parts = ap (λ (l : List Line2). line ∷ l) more.parts;
       places = ap (λ (v : Bool). v && are_routed order more.front) h ∙ more.places;
-      whole = λ e. more.whole (ap (λ (v : Bool). (cond v (routed_on order fault next lines) unplaced).fault) (sym h) ∙ e);
+      whole = λ e. more.whole (ap fault_if (sym h) ∙ e);
     }
     by false h more = record {
       front = [];
@@ -167,8 +170,7 @@ routed_front order fault before (line ∷ lines) =
       all = ap (λ (v : Bool). (cond v (routed_on order fault next lines) unplaced).lines) h ∙ sym (append-nil before);
       parts = refl;
       places = refl;
-      whole = λ e.
-          let no = ap (λ (v : Bool). (cond v (routed_on order fault next lines) unplaced).fault) (sym h) ∙ e in absurd cc;
+      whole = λ e. (let no = ap fault_if (sym h) ∙ e in absurd cc);
     }
 
 pub placed_front : (funnel : Option Turns) (r : Reading) → IsPlacedFront funnel r

@@ -74,8 +74,9 @@ pub trait Finds: Machine {
         ensures idles { (result ≡ Waits → ⊥) →
             TakesNone Self.stands Self.held_units Self.skipped_units self.old self.new };
 
-    /// Takes the packet that `find` found in these bytes, up to the one in which it ends, with all of that byte.
-    fn end(&mut self, ahead: &[u8], parts: Self::Parts) -> TakenAtOnce<Told>
+    /// Takes the packet that `find` found in these bytes, up to the one in which it ends, with all of that byte. What
+    /// it does is the same whether they are a piece or not.
+    fn end(&mut self, ahead: &[u8], parts: Self::Parts, is_piece: bool) -> TakenAtOnce<Told>
         requires live { Self.live self.old ≡ true }
         requires ends { ends self.old ahead.now parts }
         ensures same { reads self.new ≡ reads self.old }
@@ -198,8 +199,8 @@ impl Finds for ItmDecoder {
     }
 
     #[inline(always)]
-    fn end(&mut self, ahead: &[u8], parts: ItmEnd) -> TakenAtOnce<Told> {
-        let taken = self.end_part(ahead, parts);
+    fn end(&mut self, ahead: &[u8], parts: ItmEnd, is_piece: bool) -> TakenAtOnce<Told> {
+        let taken = self.end_part(ahead, parts, is_piece);
         TakenAtOnce {
             bytes: taken.bytes,
             half: taken.half,
@@ -256,7 +257,7 @@ impl Finds for StpDecoder {
     }
 
     #[inline(always)]
-    fn end(&mut self, ahead: &[u8], parts: PacketParts) -> TakenAtOnce<Told> {
+    fn end(&mut self, ahead: &[u8], parts: PacketParts, _is_piece: bool) -> TakenAtOnce<Told> {
         let taken = self.end_part(ahead, parts);
         TakenAtOnce {
             bytes: taken.bytes,

@@ -1,5 +1,6 @@
 -- A frame that is taken apart into the runs of its sources.
-use Rattle.std.specs.Prelude.{◌≡◌, ℕ, ◌+◌, ◌*◌, ◌/◌, ◌%◌, ◌^◌, ◌<◌, ◌≤◌, List, [], ◌∷◌, ◌++◌, length, take, drop, Option}
+use Rattle.std.specs.Prelude.{◌≡◌, ℕ, ◌+◌, ◌*◌, ◌/◌, ◌%◌, ◌^◌, ◌<◌, ◌≤◌, List, [], ◌∷◌, ◌++◌, length, take}
+use Rattle.std.specs.Prelude.{drop, Option}
 use Rattle.std.specs.Prelude.{slice_index}
 use Rattle.source_merge.specs.Names.{Cell, cells, places_of, run_cells, run_length, byte_in, place_in, frame_places}
 use Rattle.source_merge.specs.Names.{ends_from, ends_left, source_id}

@@ -304,7 +304,7 @@ pub fn feed_run<M: GivesTold, R: Run, V: Receiver>(
             run.is_piece(),
         ) {
             Found::Ends(parts) => {
-                let taken = machine.end(&ahead[done..], parts);
+                let taken = machine.end(&ahead[done..], parts, run.is_piece());
                 done += taken.bytes;
                 M::give_told(items, out, to, source, run.cell(done - 1).at, taken);
             }

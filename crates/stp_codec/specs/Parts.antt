@@ -18,8 +18,8 @@ run_of zero = Start
 run_of (suc zero) = Second
 run_of (suc (suc n)) = Run (suc (suc n))
 
--- From this unfinished packet on so many nibbles of these bytes end an ASYNC; or they are more than these, which are all
--- within it. It is 0 where neither is known.
+-- From this unfinished packet on so many nibbles of these bytes end an ASYNC; or they are more than these, which are
+-- all within it. It is 0 where neither is known.
 pub record RunsTo (s : Partial) (bytes : List ℕ) (there n : ℕ) : Type 0 where
   pub ends : 0 < n → n ≤ there → (n ≤ 2 * length bytes) × Ends Msn (Go s) (between (nibbles_in bytes) 0 n) Async
   pub goes : there < n → (there ≤ 2 * length bytes) × Fronts Msn s (between (nibbles_in bytes) 0 there)

@@ -33,8 +33,8 @@ pub struct StpDecoder {
     pub(crate) mode: Mode,
     /// The unfinished packet where `first` is `MANY`; else of no account.
     pub(crate) partial: Partial,
-    /// Where the unfinished packet without the bytes that wait can be read as numbers, its one nibble, or 0 where it has
-    /// none; else `MANY`. It can where the reading has begun and most significant nibbles come first.
+    /// Where the unfinished packet without the bytes that wait can be read as numbers, its one nibble, or 0 where it
+    /// has none; else `MANY`. It can where the reading has begun and most significant nibbles come first.
     pub(crate) first: u8,
     pub(crate) live: bool,
     pub(crate) attribution: Attribution,

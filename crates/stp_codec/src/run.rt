@@ -1,5 +1,5 @@
-//! What bytes are to a packet that begins or has begun with at most one nibble: of a row, or an ASYNC, which is at least
-//! 21 nibbles F and a nibble 0 (MIPI System Trace Protocol, version 2).
+//! What bytes are to a packet that begins or has begun with at most one nibble: of a row, or an ASYNC, which is at
+//! least 21 nibbles F and a nibble 0 (MIPI System Trace Protocol, version 2).
 
 ghost use Rattle.std.specs.Prelude.{◌≡◌, ℕ, ◌*◌, ◌<◌, ◌≤◌, length, get_or, IfSome};
 ghost use Rattle.stp_codec.specs.Names.{Msn};

@@ -62,7 +62,7 @@ impl Digits {
         ensures hundreds { hundreds_of self.new ≡ number / 100 }
         ensures place { self.new.place ≡ self.old.place }
     {
-        if number < self.base || number - self.base >= 100 {
+        if number < 100 || number.wrapping_sub(self.base) >= 100 {
             self.keep_anew(number);
         }
     }

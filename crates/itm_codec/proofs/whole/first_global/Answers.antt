@@ -1,18 +1,11 @@
-use Rattle.std.proofs.Common.{◌≡◌, ℕ, ◌+◌, ◌*◌, ◌/◌, ◌%◌, ◌^◌, ◌<◌, ◌≤◌, inl, inr, take, refl, sym, ◌∙◌, subst, arith, Bool, true, false}
+use Rattle.std.proofs.Common.{◌≡◌, ℕ, ◌+◌, ◌-◌, ◌*◌, ◌/◌, ◌%◌, ◌^◌, ◌<◌, ◌≤◌, inl, inr, take, sym, ◌∙◌, subst, arith, rules, length, false}
 use Rattle.std.specs.Prelude.{◌==◌}
 use Rattle.std.proofs.lemmas.Bool.Decides.{nat_tests}
-use Rattle.std.proofs.lemmas.List.{length-take-le}
 use Rattle.itm_codec.specs.Names.{bit_of, first_bits}
-use Rattle.itm_codec.specs.Windows.{four_bytes}
-use Rattle.itm_codec.proofs.Windows.{one_more, sizes, small, under}
+use Rattle.itm_codec.specs.Lengths.{groups_behind}
+use Rattle.itm_codec.proofs.Told.{first_told}
+use Rattle.itm_codec.proofs.Windows.{bit_is, groups_fit, sizes, under}
 use Rattle.itm_codec.proofs.whole.first_global.Goals as goal
-
-by_bit : (m : ℕ) (t : Bool) → (m == 1) ≡ t → m < 2 → bit_of t ≡ m
-by_bit m true e h = grind (arith, nat_tests)
-by_bit m false e h = grind (arith, nat_tests)
-
-bit_is : (m : ℕ) → bit_of (m % 2 == 1) ≡ m % 2
-bit_is m = by_bit (m % 2) (m % 2 == 1) refl (omega arith)
 
 parts : (v : ℕ) → v < 268435456 → v ≡ v % 67108864 + 67108864 * bit_of (v / 67108864 % 2 == 1) + 134217728 * bit_of (v / 134217728 % 2 == 1)
 parts v h = (let a = bit_is (v / 67108864) in let b = bit_is (v / 134217728) in
@@ -48,26 +41,34 @@ room n v h l f = elim (sizes n h l) [
   ]
 ]
 
-pub returns-in-Some : goal.returns-in-Some
-returns-in-Some c =
-    let b = c.in-Some.ensures in
-    let n = c.in-Some.bytes in
-    let v = c.in-Some.value in (
-      omega (arith, b.bytes),
-      omega (arith, b.bytes),
+pub overflow_cast-result : goal.overflow_cast-result
+overflow_cast-result c =
+    let k = first_told c.args.window.now c.args.bytes 148 (search rules) (omega arith) (sym c.requires.header) c.requires.told (omega arith) in
+    omega (arith, k)
+
+pub returns : goal.returns
+returns c =
+    let b = c.groups_in-value.ensures in
+    let v = c.groups_in-value.result in
+    let p = take 4 (groups_behind c.args.window.now) in
+    let k = first_told c.args.window.now c.args.bytes 148 (search rules) (omega arith) (sym c.requires.header) c.requires.told (omega arith) in
+    let n = length p in
+    let fits : v < 128 ^ n = subst (λ x. x < 128 ^ n) (sym b.value) (groups_fit p) in (
+      omega (arith, k),
+      omega (arith, k),
       (
-        take n (four_bytes c.args.payload),
-        one_more n 148 (four_bytes c.args.payload),
-        b.continued,
-        length-take-le n (four_bytes c.args.payload) b.bytes.1,
-        b.bytes.1,
+        p,
+        k.0,
+        k.4,
+        (let e = k.1 in omega (arith, e)),
+        (let e = k.1 in let l = k.3 in omega (arith, e, l)),
         omega arith,
-        sym b.number ∙ parts v (small n v b.bytes.0 b.bytes.1 b.fits),
+        sym b.value ∙ parts v b.fits,
       ),
       (
-        b.bytes.0,
-        b.bytes.1,
-        room n v b.bytes.0 b.bytes.1 b.fits,
-        λ l. (let s = short n v b.bytes.0 l b.fits in (no_bit (v / 67108864 % 2) (omega arith), no_bit (v / 134217728 % 2) (omega arith))),
+        (let e = k.1 in let l = k.2 in omega (arith, e, l)),
+        (let e = k.1 in let l = k.3 in omega (arith, e, l)),
+        (let e = k.1 in subst (λ m. v % 67108864 < 2 ^ first_bits m) (let f : n ≡ c.args.bytes - 1 = omega (arith, e) in f) (room n v k.2 k.3 fits)),
+        λ l. (let e = k.1 in let s = short n v k.2 (omega (arith, e, l)) fits in (no_bit (v / 67108864 % 2) (omega arith), no_bit (v / 134217728 % 2) (omega arith))),
       ),
     )

@@ -1,19 +1,16 @@
-use Rattle.std.proofs.Common.{ℕ, ◌<◌, ◌^◌, subst, sym, ◌∙◌, rules}
-use Rattle.itm_codec.proofs.Windows.{ends_of, places_of, read, each_continued}
+use Rattle.std.proofs.Common.{◌<◌, ◌∙◌, ap, sym, subst, take, drop, rules}
+use Rattle.itm_codec.specs.Lengths.{groups_behind}
+use Rattle.itm_codec.specs.Names.{groups}
+use Rattle.itm_codec.specs.Windows.{four_bytes}
+use Rattle.itm_codec.proofs.Windows.{bytes_behind, bytes_front, four_at_most, groups_few, number_groups}
 use Rattle.itm_codec.proofs.whole.groups_in.Goals as goal
 
-pub overflow_sub-last-3 : goal.overflow_sub-last-3
-overflow_sub-last-3 c = (read c.args.payload (search rules) c.if-ends-eq0.false).some
-
-pub returns-clause-continued : goal.returns-clause-continued
-returns-clause-continued c = (read c.args.payload (search rules) c.if-ends-eq0.false).continued
-
-pub returns-clause-number : goal.returns-clause-number
-returns-clause-number c = c.without_bits.ensures ∙ (read c.args.payload (search rules) c.if-ends-eq0.false).number
+pub returns-clause-value : goal.returns-clause-value
+returns-clause-value c =
+    let w = c.args.window.now in
+    c.without_bits.ensures ∙ ap (λ x. groups (four_bytes x)) c.groups_bytes.ensures
+    ∙ number_groups (take 4 (groups_behind w)) (four_at_most (groups_behind w)) (bytes_front 4 _ (bytes_front _ (drop 1 w) (bytes_behind w (search rules))))
 
 pub returns-clause-fits : goal.returns-clause-fits
 returns-clause-fits c =
-    subst (λ (v : ℕ). v < 128 ^ places_of (ends_of c.args.payload)) (sym c.without_bits.ensures) (read c.args.payload (search rules) c.if-ends-eq0.false).fits
-
-pub returns-then-ends-eq0-clause-none : goal.returns-then-ends-eq0-clause-none
-returns-then-ends-eq0-clause-none c = λ e. each_continued c.args.payload (search rules) c.if-ends-eq0.true
+    subst (λ x. x < 268435456) (sym (returns-clause-value c)) (groups_few (take 4 (groups_behind c.args.window.now)) (four_at_most (groups_behind c.args.window.now)))

@@ -1,8 +1,0 @@
-use Rattle.std.proofs.Common.{rules}
-use Rattle.std.proofs.lemmas.Bool.{eqb-true}
-use Rattle.itm_codec.proofs.Fronts.{stamp_front}
-use Rattle.itm_codec.proofs.front.is_stamp_front.Goals as goal
-
-pub returns : goal.returns
-returns c = λ e.
-    stamp_front c.args.window.now c.from_le_bytes.result c.first_bits.result c.args.count (search rules) (search rules) c.requires.header c.from_le_bytes.ensures c.requires.count c.first_bits.ensures (eqb-true _ _ e)
