@@ -9,10 +9,12 @@ use std::process::ExitCode;
 use trace_io::{ReadAdapter, WriteAdapter};
 
 fn main(rt: HostRuntime) -> ExitCode {
-    let Ok(arguments) = env::args(&rt) else {
+    let Ok(mut arguments) = env::args(&rt) else {
         return ExitCode::from(11);
     };
-    let Ok(words) = arguments.skip(1).collect::<Vec<String>>(rt.alloc()) else {
+    // the program's name
+    let _ = arguments.next();
+    let Ok(words) = arguments.collect::<Vec<String>>(rt.alloc()) else {
         return ExitCode::from(11);
     };
     let mut input = ReadAdapter::new(rt.stdin());
