@@ -4,3 +4,11 @@ pub mod Ends
 pub mod After
 pub mod Moves
 pub mod InPlace
+pub mod PieceCells
+pub mod Splitting
+pub mod DataCells
+pub mod FirstRuns
+pub mod Parts
+pub mod RunCells
+pub mod Cuts
+pub mod Placing

@@ -55,7 +55,7 @@ goes_fault (Locked n) e = refl
 goes_fault (Faulty f) e = absurd (e f refl)
 
 -- a byte that is no fault is one more of the stretch, as one whose answer is quiet
-byte_goes : (r : Stretches) (at byte : ℕ) →
+pub byte_goes : (r : Stretches) (at byte : ℕ) →
     (port_stream r.now.hunts (r.now.units ++ byte_at at byte ∷ [])).fault ≡ None →
     fed items_by from_halfword r (One (byte_at at byte)) ≡ with_units r (r.now.units ++ byte_at at byte ∷ [])
 byte_goes r at byte none =

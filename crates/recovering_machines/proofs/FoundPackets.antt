@@ -26,9 +26,9 @@ use Rattle.source_machine.specs.Units.{ReadsAlike}
 use Rattle.source_machine.specs.declared.machine.SourceMachine.{SourceMachine}
 use Rattle.source_machine.specs.declared.packets.Told.{Told}
 use Rattle.source_machine.specs.declared.packets.Told.TheVariants.{Itm, Stp}
-use Rattle.source_merge.specs.Feeding.{MachineKind}
-use Rattle.source_merge.proofs.Packets.{front, last_parts, packet_units}
-use Rattle.source_merge.proofs.RunSteps.{none_of, placed_more}
+use Rattle.recovering_machines.specs.Found.{MachineKind}
+use Rattle.recovering_machines.proofs.RunParts.{front, last_parts, packet_units}
+use Rattle.recovering_machines.proofs.RunParts.{none_of, placed_more}
 use Rattle.stretch_readings.specs.declared.heard.Heard.{Heard}
 use Rattle.stretch_readings.specs.declared.heard.Heard.TheVariants.{Read}
 use Rattle.recovering_machines.specs.Found.{PassesCells, TookPackets, ended, heard_in, kept, packet_of}

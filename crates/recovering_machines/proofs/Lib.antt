@@ -1,3 +1,4 @@
+pub mod RunParts
 pub mod Feeding
 pub mod Bytes
 pub mod Runs

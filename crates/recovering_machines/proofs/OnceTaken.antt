@@ -1,5 +1,5 @@
 -- Bytes of a source that are taken at once.
-use Rattle.std.proofs.Common.{◌≡◌, ℕ, ◌+◌, List, [], ◌∷◌, ◌++◌, length, refl, sym, ◌∙◌, ap, subst, append_assoc, Option}
+use Rattle.std.proofs.Common.{◌≡◌, ℕ, ◌+◌, List, [], ◌∷◌, ◌++◌, length, refl, sym, ◌∙◌, ap, subst, append_assoc, append-nil, Option}
 use Rattle.std.proofs.Common.{None, Some, Bool}
 use Rattle.std.specs.List.{sum_by}
 use Rattle.std.specs.Prelude.{IfSome, map}
@@ -19,7 +19,7 @@ use Rattle.source_machine.specs.Machine as machine
 use Rattle.source_machine.specs.Units.{ReadsAlike, StandsOn, kind_of as kind_on, reading_on, reads_on}
 use Rattle.source_machine.specs.declared.machine.SourceMachine.{SourceMachine}
 use Rattle.source_machine.specs.declared.machine.SourceMachine.TheVariants.{Itm as ItmSource, Stp as StpSource}
-use Rattle.source_merge.proofs.RunSteps.{placed_more}
+use Rattle.recovering_machines.proofs.RunParts.{placed_more}
 use Rattle.stretch_readings.specs.Stretches.{Stretches, from_fault, lost_in}
 use Rattle.stretch_readings.specs.Words.{IsSettling}
 use Rattle.stretch_readings.proofs.Feeding.{longer}
@@ -178,6 +178,8 @@ module _ (old new : RecoveringSource) (same_past : new.past ≡ old.past) (same_
         list_after (front ++ last ∷ []) (ended half last.at item) (passes_item half item bytes p front last e) r k;
     given = λ r front last k e.
         given_after_all (front ++ last ∷ []) (ended half last.at item) (passes_item half item bytes p front last e) r k;
+    goes = λ r front last k e.
+        goes_on (front ++ last ∷ []) (ended half last.at item) (passes_item half item bytes p front last e) r k;
   }
 
 -- what it stood for it stands for, where nothing was taken
@@ -211,3 +213,15 @@ stays old new past count hunts alike list r k =
 pub if_some : {A : Type 0} (P Q : A → Type 0) → ((x : A) → P x → Q x) → (o : Option A) → IfSome o P → IfSome o Q
 if_some P Q f None h = h
 if_some P Q f (Some x) h = f x h
+
+-- with no cells nothing more is said
+pub goes_none : (s : RecoveringSource) (r : Stretches) → GoesOn s r []
+goes_none s r = record {
+  list = ap (λ (u : List Placed). record {
+    past = r.past;
+    now = record { hunts = r.now.hunts; count = r.now.count; units = u };
+  }) (sym (append-nil r.now.units));
+  more = [];
+  given = ap (λ (u : List Placed). (reads_on s.machine r.now.hunts u).given) (append-nil r.now.units)
+      ∙ sym (append-nil (reads_on s.machine r.now.hunts r.now.units).given);
+}

@@ -1,6 +1,6 @@
 -- What bytes of a source say that are taken at once.
 use Rattle.std.specs.Prelude.{◌≡◌, ℕ, ◌+◌, ◌*◌, ◌≤◌, List, [], ◌∷◌, ◌++◌, length, map, Option, None, Some}
-use Rattle.std.specs.Prelude.{true}
+use Rattle.std.specs.Prelude.{Bool, true}
 use Rattle.std.specs.Option.{option_map}
 use Rattle.trace_values.specs.declared.cell.Cell.{Cell}
 use Rattle.trace_values.specs.Placed.{Place, Placed}
@@ -11,16 +11,16 @@ use Rattle.source_events.specs.declared.packet.Packet.TheVariants.{Itm as ItmPac
 use Rattle.source_events.specs.Merge.{told}
 use Rattle.source_events.specs.Report.{lifted}
 use Rattle.source_events.specs.Runs.{bytes_of, placed_run}
+use Rattle.source_machine.specs.Machine as machine
 use Rattle.source_machine.specs.Units.{ReadsAlike}
 use Rattle.source_machine.specs.declared.machine.SourceMachine.{SourceMachine}
 use Rattle.source_machine.specs.declared.packets.Told.{Told}
 use Rattle.source_machine.specs.declared.packets.Told.TheVariants.{Itm, Stp}
-use Rattle.source_merge.specs.Feeding.{MachineKind}
 use Rattle.stp_grammar.specs.Said.{said_item}
 use Rattle.stretch_readings.specs.declared.heard.Heard.{Heard}
 use Rattle.stretch_readings.specs.declared.heard.Heard.TheVariants.{Read}
 use Rattle.stretch_readings.specs.Stretches.{Stretches}
-use Rattle.recovering_machines.specs.Run.{between, with_run}
+use Rattle.recovering_machines.specs.Run.{GoesOn, between, with_run}
 use Rattle.recovering_machines.specs.Source.{Stands, heard_by}
 use Rattle.recovering_machines.specs.declared.source.RecoveringSource.{RecoveringSource}
 
@@ -49,6 +49,25 @@ pub record PassesCells (reading : List Placed → Stream Packet) (was now : List
   pub given : (u : List Placed) → was u → (reading (u ++ placed_run cells)).given ≡ (reading u).given ++ kept packets
   pub sound : (u : List Placed) → was u → (reading (u ++ placed_run cells)).fault ≡ None
 
+-- What a kind of machine reads a list as, and which lists it stands for; whether it is live, and how many units it
+-- holds and has skipped.
+pub record MachineKind (M V : Type 0) : Type 1 where
+  pub reading : M → List Placed → Stream V
+  pub stands : M → List Placed → Type 0
+  pub live : M → Bool
+  pub held : M → ℕ
+  pub skipped : M → ℕ
+
+-- the machines of mapped sources
+abbrev pub source_machines : MachineKind SourceMachine Packet
+source_machines = record {
+  reading = machine.reading_of;
+  stands = machine.Stands;
+  live = machine.is_live;
+  held = machine.held_of;
+  skipped = machine.skipped_by;
+}
+
 -- A machine took the cells of a run from one index up to another, and the packets in them were given, as events of this
 -- source.
 pub record TookPackets {M S : Type 0} (kind : MachineKind M Packet) (source : M → SourceMachine)
@@ -65,7 +84,7 @@ pub record TookPackets {M S : Type 0} (kind : MachineKind M Packet) (source : M 
   pub received : gets before (told (Some id) (lifted (heard_in packets))) after
   pub passes : PassesCells (kind.reading old) (kind.stands old) (kind.stands new) (between from to cells) packets
 
--- Whatever cells these bytes are in, a source took them, and they say this with the last of them.
+-- Whatever cells these bytes are in, a source took them, they say this with the last of them, and none is a fault.
 pub record TakesCells (old new : RecoveringSource) (bytes : List ℕ) (said : ℕ → List (Said (Heard Packet) × Place))
     : Type 0 where
   pub list : (r : Stretches) (front : List Cell) (last : Cell) → Stands old r →
@@ -73,3 +92,5 @@ pub record TakesCells (old new : RecoveringSource) (bytes : List ℕ) (said : �
   pub given : (r : Stretches) (front : List Cell) (last : Cell) → Stands old r →
       bytes_of (front ++ last ∷ []) ≡ bytes → (heard_by old (with_run old r (front ++ last ∷ []))).given
       ≡ (heard_by old r).given ++ said last.at
+  pub goes : (r : Stretches) (front : List Cell) (last : Cell) → Stands old r →
+      bytes_of (front ++ last ∷ []) ≡ bytes → GoesOn old r (front ++ last ∷ [])

@@ -1,5 +1,5 @@
 -- What events of a recovering report are in a strict one, and which are given.
-use Rattle.std.specs.Prelude.{ℕ, Bool, true, false, List, Option, Some, Result, Ok, Err}
+use Rattle.std.specs.Prelude.{ℕ, Bool, true, false, List, [], ◌++◌, Option, Some, Result, Ok, Err}
 use Rattle.trace_values.specs.declared.fault.Reason.{Reason}
 use Rattle.source_events.specs.declared.event.Event.{Event}
 use Rattle.source_events.specs.declared.event.What.{What}
@@ -49,3 +49,8 @@ raw_event source at bytes = record { at = at; half = 0; source = Some source; wh
 -- a byte of the trigger source, which is here
 abbrev pub trigger_event : ℕ → ℕ → ℕ → Event (Heard Packet)
 trigger_event source at byte = record { at = at; half = 0; source = Some source; what = Trigger byte }
+
+-- What takes events adds them up: given none it is as before, and given some and then more it was given all of them.
+pub record AddsUp {S E : Type 0} (gets : S → List E → S → Type 0) : Type 0 where
+  pub none : (s : S) → gets s [] s
+  pub more : (a b c : S) (es fs : List E) → gets a es b → gets b fs c → gets a (es ++ fs) c

@@ -8,33 +8,85 @@ ghost use Rattle.source_machine.specs.Finding.{PassesOver, ToldFits, told_by};
 ghost use Rattle.source_machine.specs.Machine.{Stands, held_of, is_live, reading_of, skipped_by};
 ghost use Rattle.source_machine.specs.Units.{ReadsAlike};
 ghost use Rattle.source_machine.specs.declared.machine.TheConstants.{AHEAD};
-ghost use Rattle.source_merge.specs.Routing.{source_machines};
 ghost use Rattle.trace_values.specs.Placed.{Placed};
 ghost use Rattle.trace_values.specs.Taking.{TakesNone, item_at};
 ghost use Rattle.trace_values.specs.declared.limits.TheConstants.{COUNT_ROOM};
 ghost use Rattle.trace_values.specs.declared.taking.Found.TheVariants.{Ends, Waits};
-ghost use Rattle.recovering_machines.specs.Found.{TookPackets, ended, heard_in, packet_of};
+ghost use Rattle.recovering_machines.specs.Found.{TookPackets, ended, heard_in, packet_of, source_machines};
 
 use crate::hearer::Hearer;
+use frame_runs::Run;
+use itm_codec::ItmDecoder;
 use source_events::Packet;
 use source_machine::{Finds, SourceMachine, Told};
-use source_merge::Run;
+use stp_codec::StpDecoder;
 use trace_values::{Found, Machine, SourceId, TakenAtOnce};
 
-/// Looks for the end of the unfinished packet, as the machine does, where packets of this source may be given as what
-/// they say. Else nothing is known of the bytes.
+/// A machine whose packets go to what takes events as what they say, each by the call of its protocol. Which call it
+/// is hangs on the machine's type alone, so that the loop over its packets has no other.
+pub trait HearsTold: Finds {
+    /// Gives what a packet says that was taken up to the byte at this offset, where it says something.
+    fn hear_found<V: Hearer>(
+        id: SourceId,
+        at: u64,
+        taken: TakenAtOnce<Told>,
+        out: &mut V,
+        to: &mut V::To,
+    )
+        requires fits { IfSome taken.item (λ t. ToldFits t × (told_by t ≡ Self.kind)) }
+        requires own { V.takes out.old id Self.kind }
+        requires room { 1 ≤ V.room (out.old, to.old) }
+        ensures received { V.gets (out.old, to.old)
+            (told (Some id) (lifted (heard_in (ended taken.half at (packet_of taken.item))))) (out.new, to.new) }
+        ensures room { V.room (out.old, to.old) ≤ V.room (out.new, to.new) + 1 };
+}
+
+impl HearsTold for ItmDecoder {
+    #[inline(always)]
+    fn hear_found<V: Hearer>(
+        id: SourceId,
+        at: u64,
+        taken: TakenAtOnce<Told>,
+        out: &mut V,
+        to: &mut V::To,
+    ) {
+        // It is matched in two steps, since by one pattern the packet would go to memory, too.
+        if let Some(said) = taken.item {
+            if let Told::Itm(packet) = said {
+                out.hear_itm(to, at, taken.half, id, packet);
+            }
+        }
+    }
+}
+
+impl HearsTold for StpDecoder {
+    #[inline(always)]
+    fn hear_found<V: Hearer>(
+        id: SourceId,
+        at: u64,
+        taken: TakenAtOnce<Told>,
+        out: &mut V,
+        to: &mut V::To,
+    ) {
+        if let Some(Told::Stp(said)) = taken.item {
+            out.hear_said(to, at, taken.half, id, said);
+        }
+    }
+}
+
+/// Looks for the end of the unfinished packet, as the machine does, where packets may be given as what they say. Else
+/// nothing is known of the bytes.
 #[inline(always)]
-fn look<M: Finds, V: Hearer>(
+fn look<M: Finds>(
     machine: &mut M,
-    out: &V,
-    id: SourceId,
+    takes_told: bool,
     ahead: &[u8],
     count: usize,
     is_piece: bool,
 ) -> Found<M::Parts>
     requires live { M.live machine.old ≡ true }
     requires ahead { count + AHEAD ≤ length ahead.now }
-    ensures own { (parts : M.Parts) → result ≡ Ends parts → V.takes out.now id M.kind }
+    ensures own { (parts : M.Parts) → result ≡ Ends parts → takes_told ≡ true }
     ensures same { (M.reads machine.new ≡ M.reads machine.old)
         × ReadsAlike (M.source machine.old) (M.source machine.new) }
     ensures live { M.live machine.new ≡ true }
@@ -47,37 +99,17 @@ fn look<M: Finds, V: Hearer>(
     ensures idles { (result ≡ Waits → ⊥) →
         TakesNone M.stands M.held_units M.skipped_units machine.old machine.new }
 {
-    if out.takes_told(id, machine.kind()) {
+    if takes_told {
         machine.find(ahead, count, is_piece)
     } else {
         Found::Unknown
     }
 }
 
-/// Gives what a packet says that was taken up to the byte at this offset, where it says something.
-#[inline(always)]
-fn hear_found<V: Hearer>(
-    id: SourceId,
-    at: u64,
-    taken: TakenAtOnce<Told>,
-    out: &mut V,
-    to: &mut V::To,
-)
-    requires fits { IfSome taken.item (λ t. ToldFits t × V.takes out.old id (told_by t)) }
-    requires room { 1 ≤ V.room (out.old, to.old) }
-    ensures received { V.gets (out.old, to.old)
-        (told (Some id) (lifted (heard_in (ended taken.half at (packet_of taken.item))))) (out.new, to.new) }
-    ensures room { V.room (out.old, to.old) ≤ V.room (out.new, to.new) + 1 }
-{
-    if let Some(said) = taken.item {
-        out.hear_told(to, at, taken.half, id, said);
-    }
-}
-
 /// Takes packets of a run of this source from this index on, as long as the machine finds them, and gives them. Answers
 /// the index after them.
 #[inline(never)]
-fn take_packets<M: Finds, R: Run, V: Hearer>(
+fn take_packets<M: HearsTold, R: Run, V: Hearer>(
     machine: &mut M,
     id: SourceId,
     run: &R,
@@ -97,13 +129,13 @@ fn take_packets<M: Finds, R: Run, V: Hearer>(
     }) M.source V.gets V.room id (R.cells run.now) from result machine.old machine.new
         (out.old, to.old) (out.new, to.new) }
 {
+    let takes_told = out.takes_told(id, machine.kind());
     let ahead = run.ahead();
     let mut done = from;
     while done < run.len() {
         match look(
             machine,
-            out,
-            id,
+            takes_told,
             &ahead[done..],
             run.len() - done,
             run.is_piece(),
@@ -111,7 +143,7 @@ fn take_packets<M: Finds, R: Run, V: Hearer>(
             Found::Ends(parts) => {
                 let taken = machine.end(&ahead[done..], parts, run.is_piece());
                 done += taken.bytes;
-                hear_found(id, run.cell(done - 1).at, taken, out, to);
+                M::hear_found(id, run.cell(done - 1).at, taken, out, to);
             }
             Found::Waits => done = run.len(),
             Found::Unknown => return done,

@@ -1,22 +1,21 @@
 //! What takes what recovering sources say.
 
-ghost use Rattle.std.specs.Prelude.{◌≡◌, ◌↔◌, ◌+◌, ◌<◌, ◌≤◌, ◌∷◌, [], ℕ, List, Some, length, IsTrue};
+ghost use Rattle.std.specs.Prelude.{◌≡◌, ◌↔◌, ◌+◌, ◌<◌, ◌≤◌, ◌∷◌, [], ℕ, List, Some, length, IsTrue, true};
+ghost use Rattle.std.specs.Option.{is_some};
 ghost use Rattle.source_events.specs.declared.event.Event.{Event};
 ghost use Rattle.source_events.specs.declared.packet.Packet.{Packet};
 ghost use Rattle.source_events.specs.declared.packet.Packet.TheVariants.{Itm, Stp};
 ghost use Rattle.source_events.specs.declared.plan.SourceKind.{SourceKind};
-ghost use Rattle.source_machine.specs.Finding.{ToldFits, told_by};
-ghost use Rattle.source_machine.specs.declared.packets.Told.TheVariants.{Itm as SaysItm, Stp as SaysStp};
-ghost use Rattle.itm_grammar.specs.declared.packet.ItmPacket.{ItmPacket};
-ghost use Rattle.stp_grammar.specs.Said.{said_item};
-ghost use Rattle.stp_grammar.specs.declared.said.Said.{Said};
+ghost use Rattle.source_events.specs.declared.plan.SourceKind.TheVariants.{Itm as ItmKind, Stp as StpKind};
+ghost use Rattle.itm_grammar.specs.Proper.{IsProper};
+ghost use Rattle.stp_grammar.specs.Said.{IsProperSaid, said_item};
 ghost use Rattle.stp_grammar.specs.declared.item.StpItem.{StpItem};
-ghost use Rattle.source_merge.specs.Giving.{AddsUp};
 ghost use Rattle.stretch_readings.specs.declared.heard.Heard.{Heard};
-ghost use Rattle.recovering_machines.specs.Hearing.{HeardFits, raw_event, read_event, trigger_event};
+ghost use Rattle.recovering_machines.specs.Hearing.{AddsUp, HeardFits, raw_event, read_event, trigger_event};
 
+use itm_grammar::packet::ItmPacket;
 use source_events::{Event, Packet, SourceKind};
-use source_machine::Told;
+use stp_grammar::said::Said;
 use stretch_readings::Heard;
 use trace_values::SourceId;
 
@@ -43,22 +42,36 @@ pub trait Hearer {
     fn events_left(&self, to: &Self::To) -> usize
         ensures { result ≡ room (self.now, to.now) };
 
-    /// Packets of this source, which is of this kind, may be given as what they say. It is asked before a packet is
+    /// Packets of this source, which is of this kind, may be given as what they say. It is asked before packets are
     /// read: so what is read goes straight into what is made of it.
     fn takes_told(&self, source: SourceId, kind: SourceKind) -> bool
         ensures { IsTrue result ↔ takes self.now source kind };
 
-    /// Takes the next event, which is what a packet of this source says. It ends in this half of the byte at this
-    /// offset.
+    /// Takes the next event, which is this packet of this ITM source. It ends in this half of the byte at this offset.
     ///
     /// It is what `hear` makes of that event, which need not be in memory; so are those below.
-    fn hear_told(&mut self, to: &mut Self::To, at: u64, half: u8, source: SourceId, told: Told)
-        requires fits { ToldFits told }
-        requires own { takes self.old source (told_by told) }
+    fn hear_itm(
+        &mut self,
+        to: &mut Self::To,
+        at: u64,
+        half: u8,
+        source: SourceId,
+        packet: ItmPacket,
+    )
+        requires proper { IsProper packet }
+        requires own { takes self.old source ItmKind }
         requires room { 0 < room (self.old, to.old) }
-        ensures itm { (packet : ItmPacket) → told ≡ SaysItm packet →
-            gets (self.old, to.old) (read_event source at half (Itm packet) ∷ []) (self.new, to.new) }
-        ensures stp { (said : Said) (item : StpItem) → told ≡ SaysStp said → said_item said ≡ Some item →
+        ensures gets { gets (self.old, to.old) (read_event source at half (Itm packet) ∷ []) (self.new, to.new) }
+        ensures room { room (self.old, to.old) ≤ room (self.new, to.new) + 1 };
+
+    /// Takes the next event, which is the item of what a packet of this STP source says. It ends in this half of the
+    /// byte at this offset.
+    fn hear_said(&mut self, to: &mut Self::To, at: u64, half: u8, source: SourceId, said: Said)
+        requires proper { IsProperSaid said }
+        requires some { is_some (said_item said) ≡ true }
+        requires own { takes self.old source StpKind }
+        requires room { 0 < room (self.old, to.old) }
+        ensures gets { (item : StpItem) → said_item said ≡ Some item →
             gets (self.old, to.old) (read_event source at half (Stp item) ∷ []) (self.new, to.new) }
         ensures room { room (self.old, to.old) ≤ room (self.new, to.new) + 1 };
 
@@ -79,4 +92,7 @@ pub trait Hearer {
 
     // given some events and then more, it was given all of them
     ghost adds_up: { AddsUp gets };
+    // what it was given makes no difference to what it may be given so
+    ghost takes_on: { (a b : Self × Self.To) (es : List (Event (Heard Packet))) (source : ℕ) (kind : SourceKind) →
+        gets a es b → takes a.0 source kind → takes b.0 source kind };
 }

@@ -10,10 +10,10 @@ ghost use Rattle.recovering_machines.specs.Guess.{AnswerFits, guessed_by, said_i
 
 use crate::guess::{Answer, Guess};
 use crate::hearer::Hearer;
-use crate::run::{event_at, hear_step, take_slowly};
+use crate::run::{event_at, hear_step, take_one, take_within};
 use crate::source::RecoveringSource;
+use frame_runs::Run;
 use source_events::{Packet, SourceKind, What};
-use source_merge::Run;
 use stp_grammar::packet::Order;
 use stretch_readings::Heard;
 use trace_values::{PacketsMode, SourceId, Step};
@@ -165,8 +165,32 @@ impl MappedSource {
         self.sure.take_packets(id, run, from, out, to)
     }
 
-    /// Takes bytes of a run from this index on, of which no packet was found: with its guesses one. Answers the index
-    /// after them.
+    /// Takes bytes of a run from this index on within the unfinished packet, where nothing is read on. Answers the index
+    /// after them: this index where nothing is known of the bytes.
+    #[inline(always)]
+    fn take_within<R: Run, V: Hearer>(
+        &mut self,
+        id: SourceId,
+        run: &R,
+        from: usize,
+        out: &mut V,
+        to: &mut V::To,
+    ) -> usize
+        requires from { from < length (R.cells run.now) }
+        requires few { total_of self.old + 6 * (length (R.cells run.now) - from) ≤ COUNT_ROOM }
+        requires room { 2 * (length (R.cells run.now) - from) ≤ V.room (out.old, to.old) }
+        ensures within { (from ≤ result) × (result ≤ length (R.cells run.now)) }
+        ensures takes { TakesMapped V.gets V.room id (between from result (R.cells run.now)) self.old self.new
+            (out.old, to.old) (out.new, to.new) }
+    {
+        if self.is_guessing() {
+            return from;
+        }
+        take_within(&mut self.sure, id, run, from, out, to)
+    }
+
+    /// Takes bytes of a run from this index on, of which no packet was found. Answers the index after them.
+    #[inline(never)]
     fn take_others<R: Run, V: Hearer>(
         &mut self,
         id: SourceId,
@@ -183,11 +207,12 @@ impl MappedSource {
         ensures takes { TakesMapped V.gets V.room id (between from result (R.cells run.now)) self.old self.new
             (out.old, to.old) (out.new, to.new) }
     {
-        if self.guesses {
-            self.take_byte(id, run, from, out, to);
-            return from + 1;
+        let done = self.take_within(id, run, from, out, to);
+        if done > from {
+            return done;
         }
-        take_slowly(&mut self.sure, id, run, from, out, to)
+        self.take_byte(id, run, from, out, to);
+        from + 1
     }
 
     /// Takes the byte of a run at this index.
@@ -199,13 +224,16 @@ impl MappedSource {
         out: &mut V,
         to: &mut V::To,
     )
-        requires guesses { guesses_of self.old ≡ true }
         requires index { index < length (R.cells run.now) }
         requires few { total_of self.old ≤ COUNT_ROOM }
         requires room { 2 ≤ V.room (out.old, to.old) }
         ensures { TakesMapped V.gets V.room id (between index (index + 1) (R.cells run.now)) self.old self.new
             (out.old, to.old) (out.new, to.new) }
     {
+        if !self.guesses {
+            take_one(&mut self.sure, id, run, index, out, to);
+            return;
+        }
         let cell = run.cell(index);
         let step = self.sure.feed(cell.at, cell.byte);
         let answer = self.guess.follow(cell.at, cell.byte, step);

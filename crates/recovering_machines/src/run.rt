@@ -6,15 +6,16 @@ ghost use Rattle.source_events.specs.Merge.{told};
 ghost use Rattle.source_events.specs.Report.{lifted};
 ghost use Rattle.stretch_readings.specs.Steps.{said_by};
 ghost use Rattle.recovering_machines.specs.Found.{ended, heard_in};
-ghost use Rattle.recovering_machines.specs.Run.{TakesRun, between};
-ghost use Rattle.recovering_machines.specs.Source.{total_of};
+ghost use Rattle.recovering_machines.specs.Run.{GoesOn, TakesRun, between};
+ghost use Rattle.recovering_machines.specs.Source.{Stands, total_of};
+ghost use Rattle.stretch_readings.specs.Stretches.{Stretches};
 ghost use Rattle.trace_values.specs.Stream.{StepFits};
 ghost use Rattle.trace_values.specs.declared.limits.TheConstants.{COUNT_ROOM};
 
 use crate::hearer::Hearer;
 use crate::source::RecoveringSource;
+use frame_runs::Run;
 use source_events::{Event, Packet, What};
-use source_merge::Run;
 use stretch_readings::Heard;
 use trace_values::{SourceId, Step};
 
@@ -91,10 +92,10 @@ fn hear_packet<V: Hearer>(
     }
 }
 
-/// Takes bytes of a run of this source from this index on, of which no packet was found: those up to the one in which a
-/// packet ends, or one byte where nothing is known of them. Gives their events, and answers the index after them.
-#[inline(never)]
-pub(crate) fn take_slowly<R: Run, V: Hearer>(
+/// Takes bytes of a run of this source from this index on, within the unfinished packet, up to the one in which it ends,
+/// or all of them. Gives the packet, and answers the index after them: this index where nothing is known of the bytes.
+#[inline(always)]
+pub(crate) fn take_within<R: Run, V: Hearer>(
     source: &mut RecoveringSource,
     id: SourceId,
     run: &R,
@@ -105,9 +106,11 @@ pub(crate) fn take_slowly<R: Run, V: Hearer>(
     requires from { from < length (R.cells run.now) }
     requires few { total_of source.old + 4 * (length (R.cells run.now) - from) ≤ COUNT_ROOM }
     requires room { 2 * (length (R.cells run.now) - from) ≤ V.room (out.old, to.old) }
-    ensures within { (from < result) × (result ≤ length (R.cells run.now)) }
+    ensures within { (from ≤ result) × (result ≤ length (R.cells run.now)) }
     ensures takes { TakesRun V.gets V.room id (between from result (R.cells run.now)) source.old source.new
         (out.old, to.old) (out.new, to.new) }
+    ensures goes { (r : Stretches) → Stands source.old r →
+        GoesOn source.old r (between from result (R.cells run.now)) }
 {
     let bytes = &run.ahead()[from..run.len()];
     if let Some(taken) = source.take(bytes) {
@@ -115,8 +118,26 @@ pub(crate) fn take_slowly<R: Run, V: Hearer>(
         hear_packet(id, run.cell(end - 1).at, taken.half, taken.item, out, to);
         return end;
     }
+    from
+}
+
+/// Takes the byte of a run of this source at this index, and gives its events.
+#[inline(always)]
+pub(crate) fn take_one<R: Run, V: Hearer>(
+    source: &mut RecoveringSource,
+    id: SourceId,
+    run: &R,
+    from: usize,
+    out: &mut V,
+    to: &mut V::To,
+)
+    requires from { from < length (R.cells run.now) }
+    requires few { total_of source.old ≤ COUNT_ROOM }
+    requires room { 2 ≤ V.room (out.old, to.old) }
+    ensures { TakesRun V.gets V.room id (between from (from + 1) (R.cells run.now)) source.old source.new
+        (out.old, to.old) (out.new, to.new) }
+{
     let cell = run.cell(from);
     let step = source.feed(cell.at, cell.byte);
     hear_step(id, cell.at, step, out, to);
-    from + 1
 }

@@ -16,9 +16,9 @@ ghost use Rattle.recovering_machines.specs.Units.{BeginsHunt};
 
 use crate::found::{take_bytes, take_found};
 use crate::hearer::Hearer;
+use frame_runs::Run;
 use source_events::{Packet, SourceKind};
 use source_machine::SourceMachine;
-use source_merge::Run;
 use stp_grammar::packet::Order;
 use trace_values::{Machine, PacketsMode, SourceId, Step, TakenAtOnce};
 

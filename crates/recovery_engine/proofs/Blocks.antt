@@ -25,6 +25,7 @@ use Rattle.recovery_report.specs.Report.{parts_in}
 use Rattle.recovery_report.specs.Words.{parts_by}
 use Rattle.recovery_report.proofs.CountLaws as count_laws
 use Rattle.recovery_report.proofs.PortLaws as port_laws
+use Rattle.recovery_engine.specs.Front.{EndsLast}
 use Rattle.recovery_engine.specs.Port.{PortStands}
 use Rattle.recovery_engine.proofs.Feeding as parts
 use Rattle.recovery_engine.proofs.Feeding.{port_more}
@@ -144,6 +145,20 @@ module _ (old : RecoveringPort) (at : ℕ) (bytes : List ℕ) (step : PortStep) 
   framed_parts Hunt u n m e k = ap (λ r. parts_in (of_stretches r)) (port_more Hunt u (placed_from at bytes))
       ∙ block_parts (port_stretches Hunt u) k n e
 
+  late_by : (mode : FramesMode) (u : List Placed) (r : Stretches) (k : ports.Stands old r) → port_stretches mode u ≡ r →
+      ((v : List Placed) → recovered mode v ≡ of_stretches (port_stretches mode v)) → EndsLast mode u at bytes
+  late_by mode u r k e framed = record {
+    front = (t r k).front;
+    last = (t r k).last;
+    are = (t r k).parts;
+    quiet =
+        ap parts_in (framed (u ++ placed_from at (t r k).front))
+        ∙ ap (λ s. parts_in (of_stretches s)) (port_more mode u (placed_from at (t r k).front)
+        ∙ ap (λ (s : Stretches). with_bytes s at (t r k).front) e
+        ∙ (feeding.front_goes (t r k).front r at (none r k) (t r k).quiet).0)
+        ∙ (same r k).parts ∙ ap (λ (s : Stretches). parts_in (of_stretches s)) (sym e) ∙ ap parts_in (sym (framed u));
+  }
+
   pub framed_counts : (mode : FramesMode) (u : List Placed) → mode ≢ Bare → PortStands mode old u →
       CountsGrow (recovered mode u) (recovered mode (u ++ placed_from at bytes)) step cells
   framed_counts Bare u m k = absurd (m refl)
@@ -153,6 +168,13 @@ module _ (old : RecoveringPort) (at : ℕ) (bytes : List ℕ) (step : PortStep) 
   framed_counts Hunt u m k =
       subst (λ r. CountsGrow (recovered Hunt u) (of_stretches r) step cells)
       (sym (port_more Hunt u (placed_from at bytes))) (block_counts (port_stretches Hunt u) k)
+
+  -- all but the last of them end nothing
+  pub framed_late : (mode : FramesMode) (u : List Placed) → mode ≢ Bare → PortStands mode old u →
+      EndsLast mode u at bytes
+  framed_late Bare u m k = absurd (m refl)
+  framed_late Aligned u m k = late_by Aligned u (port_stretches Aligned u) k refl (λ v. refl)
+  framed_late Hunt u m k = late_by Hunt u (port_stretches Hunt u) k refl (λ v. refl)
 
 -- what a port stands for after them
 pub port_list : (old new : RecoveringPort) (u : List Placed) (at : ℕ) (bytes : List ℕ) (mode : FramesMode) →

@@ -1,9 +1,8 @@
 -- How the port and the mapped sources end.
 use Rattle.std.proofs.Common.{◌≡◌, ◌≢◌, ℕ, zero, suc, ◌+◌, ◌≤◌, List, [], ◌∷◌, ◌++◌, refl, sym, ◌∙◌, ap, subst, arith}
-use Rattle.std.proofs.Common.{append_assoc, append-nil, length, map, Option, None, Some, Bool, true, false, cond}
-use Rattle.std.specs.Prelude.{flat_map, is_some, IfSome, ◌==◌, ◌||◌}
-use Rattle.std.specs.List.{list_any, range_with_len, sum_by}
-use Rattle.std.proofs.lemmas.List.{length-map}
+use Rattle.std.proofs.Common.{append_assoc, append-nil, map, Option, None, Some, Bool, true, cond}
+use Rattle.std.specs.Prelude.{flat_map, is_some, IfSome, ◌==◌}
+use Rattle.std.specs.List.{range_with_len, sum_by}
 use Rattle.std.proofs.lemmas.List.Sums.{sum_by-append}
 use Rattle.trace_values.specs.Placed.{Placed}
 use Rattle.trace_values.specs.Stream.{Stream}
@@ -16,8 +15,6 @@ use Rattle.source_events.specs.declared.plan.SourceKind.{SourceKind}
 use Rattle.source_events.specs.declared.port_mode.PortMode.{PortMode}
 use Rattle.source_events.specs.declared.tails.SourceTail.{SourceTail}
 use Rattle.source_events.specs.Plan as plans
-use Rattle.source_merge.specs.Ending.{all_of}
-use Rattle.source_merge.specs.declared.slot.Slot.{Slot}
 use Rattle.stretch_readings.specs.Stretches.{Stretch, Stretches, heard_of, from_fault, lost_in, skipped_in}
 use Rattle.recovering_machines.specs.Port as ports
 use Rattle.recovering_machines.specs.Port.{items_by, from_halfword}
@@ -26,7 +23,7 @@ use Rattle.recovering_machines.specs.declared.port.RecoveringPort.{RecoveringPor
 use Rattle.recovering_machines.specs.declared.mapped.MappedSource.{MappedSource}
 use Rattle.recovery_report.specs.Port.{PortStretch, of_stretches, port_stretches, recovered, skipped_of, stretch_of}
 use Rattle.recovery_report.specs.Report.{Part, mode_by, source_tails, stretches_of, tail_by, tail_of}
-use Rattle.recovery_engine.specs.Ends.{EndsAs, end_of}
+use Rattle.recovery_engine.specs.Ends.{EndsAs, all_of, end_of}
 use Rattle.recovery_engine.specs.Port.{PortStands}
 use Rattle.recovery_engine.specs.Slots.{IsSource, StandsAt, source_at, total}
 use Rattle.recovery_engine.specs.declared.ends.PortEnd.{PortEnd}
@@ -117,25 +114,6 @@ module _ (plan : Plan) (x : ℕ) (kind : SourceKind) (named : plans.kind_of plan
       let q : Some (kind_of s) ≡ Some kind = sym k.kind ∙ named in
       let same : kind_of s ≡ kind = cc in
       ap (λ (z : Option SourceTail). all_of z) (e guesses plan parts k same) ∙ ap (tail_by plan parts x) (sym named)
-
--- as slots of the strict engine, of whose numbers it is known how many there are
-abbrev pub as_slots : List RecoveringSlot → List Slot
-as_slots slots = map (λ s. record { id = s.id; machine = s.source.sure.machine }) slots
-
-pub length-as_slots : (slots : List RecoveringSlot) → length (as_slots slots) ≡ length slots
-length-as_slots slots = length-map slots one where
-  one : RecoveringSlot → Slot
-  one s = record { id = s.id; machine = s.source.sure.machine }
-
-pub any_at : (x : ℕ) (slots : List RecoveringSlot) → is_some (source_at slots x) ≡ true →
-    list_any (λ (s : Slot). s.id == x) (as_slots slots) ≡ true
-any_at x [] e = cc
-any_at x (s ∷ slots) e = by (s.id == x) e (λ h. any_at x slots h) where
-  by : (b : Bool) → is_some (cond b (Some s.source) (source_at slots x)) ≡ true →
-      (is_some (source_at slots x) ≡ true → list_any (λ (r : Slot). r.id == x) (as_slots slots) ≡ true) →
-      (b || list_any (λ (r : Slot). r.id == x) (as_slots slots)) ≡ true
-  by true e f = refl
-  by false e f = f e
 
 -- a source holds and skipped no more than all of them
 pub within_total : (slots : List RecoveringSlot) (s : RecoveringSlot) (rest : List RecoveringSlot) →

@@ -1,6 +1,6 @@
 -- More bytes of the port.
 use Rattle.std.proofs.Common.{◌≡◌, ℕ, ◌+◌, List, [], ◌∷◌, ◌++◌, refl, sym, ◌∙◌, ap, subst}
-use Rattle.std.proofs.Common.{append-nil, append_assoc, arith, length, map, take, Bool, Some, ◌≤◌}
+use Rattle.std.proofs.Common.{append-nil, append_assoc, arith, length, map, take, Bool, Some, ◌<◌, ◌≤◌}
 use Rattle.std.proofs.lemmas.Grind.{flat_map-append}
 use Rattle.std.proofs.lemmas.List.{length-take-le, map-append, take-take}
 use Rattle.trace_values.specs.declared.cell.Cell.{Cell}
@@ -12,13 +12,14 @@ use Rattle.deformatter.specs.declared.step.PortStep.TheVariants.{Quiet, Half, Fu
 use Rattle.deformatter.specs.declared.step.PortStep.TheVariants.{Fault as Faulty}
 use Rattle.deformatter.specs.Modes.{hunts}
 use Rattle.deformatter.specs.PortReading.{bare_cell}
-use Rattle.deformatter.specs.Rising.{BytesRise}
+use Rattle.frame_grammar.specs.Reading.{offsets_of}
+use Rattle.deformatter.specs.Rising.{BytesRise, end_at}
 use Rattle.source_events.specs.declared.event.Event.{Event}
 use Rattle.source_events.specs.declared.packet.Packet.{Packet}
 use Rattle.source_events.specs.declared.plan.Plan.{Plan}
 use Rattle.source_events.specs.Runs.{all_runs, runs_of}
-use Rattle.source_merge.specs.Piece.{cells_from}
-use Rattle.source_merge.proofs.Going.{rise_block}
+use Rattle.frame_runs.specs.Piece.{cells_from}
+use Rattle.recovery_engine.proofs.Rising.{end_block, rise_block, rise_to}
 use Rattle.stretch_readings.specs.declared.heard.Heard.{Heard}
 use Rattle.stretch_readings.proofs.StretchLaws.{from_append}
 use Rattle.stretch_readings.specs.Stretches.{One, fed, fed_from, before}
@@ -28,8 +29,8 @@ use Rattle.recovery_report.specs.Report.{Part, Run, Locks, parts_in, report_from
 use Rattle.recovery_report.specs.Words.{AreOf, parts_by, singles}
 use Rattle.recovery_report.specs.Placing.{PartsBetween}
 use Rattle.recovery_report.proofs.Parting.{parts_placed}
-use Rattle.recovery_engine.specs.Engine.{Stands, count_of, guesses_of, plan_of}
-use Rattle.recovery_engine.specs.Front.{TakesFront}
+use Rattle.recovery_engine.specs.Engine.{Stands, guesses_of, plan_of}
+use Rattle.recovery_engine.specs.Front.{EndsLast, TakesFront}
 use Rattle.recovery_engine.specs.Slots.{StandFor}
 use Rattle.recovery_engine.specs.Taking.{Takes}
 use Rattle.recovery_engine.specs.declared.engine.Recovery.{Recovery}
@@ -100,11 +101,17 @@ piece_bare at [] = refl
 piece_bare at (b ∷ bytes) =
     ap (λ (l : List Cell). record { at = at; id = Some 1; run = 0; byte = b } ∷ l) (piece_bare (at + 1) bytes)
 
--- bytes that come next rise
-pub rises_more : (u : List Placed) (at n : ℕ) (bytes : List ℕ) → length bytes ≡ n → BytesRise 0 at u →
-    BytesRise 0 (at + n) (u ++ placed_from at bytes)
-rises_more u at n bytes e rise =
-    subst (λ (k : ℕ). BytesRise 0 (at + k) (u ++ placed_from at bytes)) e (rise_block u at bytes rise)
+-- bytes that come later rise, and the last of them is the last one
+pub rises_more : (u : List Placed) (next at n : ℕ) (bytes : List ℕ) → length bytes ≡ n → next ≤ at →
+    BytesRise 0 next u → BytesRise 0 (at + n) (u ++ placed_from at bytes)
+rises_more u next at n bytes e l rise =
+    subst (λ (k : ℕ). BytesRise 0 (at + k) (u ++ placed_from at bytes)) e
+    (rise_block u at bytes (rise_to u next at rise l))
+
+pub next_more : (u : List Placed) (at n : ℕ) (bytes : List ℕ) → length bytes ≡ n → 0 < n →
+    at + n ≡ end_at 0 (offsets_of (u ++ placed_from at bytes))
+next_more u at n bytes e some =
+    ap (λ (k : ℕ). at + k) (sym e) ∙ sym (end_block bytes u at (omega (arith, e, some)))
 
 -- what was taken is what the bytes add
 module _ {S : Type 0} (gets : S → List (Event (Heard Packet)) → S → Type 0) (guesses : Bool) (plan : Plan)
@@ -123,19 +130,18 @@ module _ {S : Type 0} (gets : S → List (Event (Heard Packet)) → S → Type 0
 
 -- what was taken of a front of a piece was taken of the piece
 pub front_of : {S : Type 0} (gets : S → List (Event (Heard Packet)) → S → Type 0) (left : S → ℕ)
-    (piece front : List ℕ) (m n : ℕ) (old new : Recovery × S) → m ≤ length piece → front ≡ take m piece →
-    TakesFront gets left front n old new → TakesFront gets left piece n old new
-front_of gets left piece front m n old new within e t =
+    (at : ℕ) (piece front : List ℕ) (m n : ℕ) (old new : Recovery × S) → m ≤ length piece → front ≡ take m piece →
+    TakesFront gets left at front n old new → TakesFront gets left at piece n old new
+front_of gets left at piece front m n old new within e t =
     let size : length front ≡ m = ap length e ∙ length-take-le m piece within in
     let few = t.bytes.1 in
     let same : take n front ≡ take n piece =
     ap (take n) e ∙ take-take n m piece (omega (arith, size, few)) in
-    let at = count_of old.0 in
     record {
       bytes = (t.bytes.0, omega (arith, size, few, within));
       plan = t.plan;
       guesses = t.guesses;
-      count = t.count;
+      next = t.next;
       list = λ u k. subst (λ (b : List ℕ). Stands new.0 (u ++ placed_from at b)) same (t.list u k);
       given = (
         t.given.0,
@@ -143,5 +149,6 @@ front_of gets left piece front m n old new within e t =
         λ u k. subst (λ (b : List ℕ). report_with (guesses_of old.0) (plan_of old.0) (u ++ placed_from at b)
             ≡ report_with (guesses_of old.0) (plan_of old.0) u ++ t.given.0) same (t.given.2 u k),
       );
+      late = λ m u k. subst (λ (b : List ℕ). EndsLast (plan_of old.0).frames u at b) same (t.late m u k);
       room = t.room;
     }

@@ -1,18 +1,23 @@
 -- A whole frame that is taken run by run.
 use Rattle.std.proofs.Common.{◌≡◌, ℕ, ◌+◌, ◌-◌, ◌*◌, ◌≤◌, List, [], ◌∷◌, ◌++◌, map, length, refl, sym, ◌∙◌, ap}
-use Rattle.std.proofs.Common.{append_assoc, append-nil, arith, subst}
+use Rattle.std.proofs.Common.{append_assoc, append-nil, arith, get_or, subst, ◌<◌}
 use Rattle.std.proofs.lemmas.List.{map-append}
 use Rattle.trace_values.specs.declared.cell.Cell.{Cell}
 use Rattle.source_events.specs.declared.event.Event.{Event}
 use Rattle.source_events.specs.declared.packet.Packet.{Packet}
-use Rattle.source_events.specs.Runs.{runs_of}
-use Rattle.source_merge.proofs.Framing.{FirstRun}
+use Rattle.source_events.specs.Runs.{id_of, runs_of}
+use Rattle.frame_runs.proofs.FirstRuns.{FirstRun}
 use Rattle.stretch_readings.specs.declared.heard.Heard.{Heard}
 use Rattle.recovery_report.specs.Report.{Part, Run}
 use Rattle.recovery_engine.specs.Slots.{total}
 use Rattle.recovery_engine.specs.Taking.{Takes}
 use Rattle.recovery_engine.specs.declared.slot.RecoveringSlot.{RecoveringSlot}
 use Rattle.recovery_engine.proofs.Parts.{takes_none, takes_then}
+
+-- the source of some cells is that of the first
+pub id_is : (run : List Cell) (d : Cell) → 0 < length run → (get_or run 0 d).id ≡ id_of run
+id_is [] d h = absurd (omega arith)
+id_is (c ∷ run) d h = refl
 
 module _ {S : Type 0} (gets : S → List (Event (Heard Packet)) → S → Type 0) (room : S → ℕ) (cells : List Cell)
     (first : List RecoveringSlot × S) where

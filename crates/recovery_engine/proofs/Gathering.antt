@@ -19,21 +19,19 @@ use Rattle.source_events.specs.Merge.{is_of, told}
 use Rattle.source_events.specs.Report.{raw_events, triggers}
 use Rattle.source_events.specs.Runs.{bytes_of, id_of, last_at, runs_of}
 use Rattle.stretch_readings.specs.declared.heard.Heard.{Heard}
-use Rattle.source_merge.proofs.Refilled.{refilled}
+use Rattle.recovery_engine.proofs.Refilled.{refilled}
 use Rattle.recovering_machines.specs.Port as ports
-use Rattle.recovering_machines.specs.declared.port.RecoveringPort.{RecoveringPort}
 use Rattle.recovery_report.specs.Port.{recovered}
 use Rattle.recovery_report.specs.Counts.{is_fault}
 use Rattle.recovery_report.specs.Report.{Part, Run, parts_in, report_with}
 use Rattle.recovery_engine.specs.Counting.{HasCounted}
-use Rattle.recovery_engine.specs.Engine.{Stands, count_of, guesses_of, plan_of}
-use Rattle.recovery_engine.specs.Front.{Adds, TakesFront}
-use Rattle.recovery_engine.specs.Heard.{AreUnread, is_packet}
+use Rattle.recovery_engine.specs.Engine.{Stands, guesses_of, next_of, plan_of}
+use Rattle.recovery_engine.specs.Front.{Adds, EndsLast, Kept, TakesFront, kept_by}
+use Rattle.recovery_engine.specs.Heard.{AreSound, AreUnread, is_packet}
 use Rattle.recovery_engine.specs.HeardLaws.{adds_up}
 use Rattle.recovery_engine.specs.Port.{PortStands}
 use Rattle.recovery_engine.specs.Slots.{StandFor}
 use Rattle.recovery_engine.specs.Taking.{Takes}
-use Rattle.recovery_engine.specs.declared.counts.PortTotals.{PortTotals}
 use Rattle.recovery_engine.specs.declared.engine.Recovery.{Recovery}
 use Rattle.recovery_engine.specs.declared.slot.RecoveringSlot.{RecoveringSlot}
 use Rattle.recovery_engine.proofs.Feeding.{report_more, stands_more}
@@ -52,7 +50,7 @@ module _ {S : Type 0} (gets : S → List (Event (Heard Packet)) → S → Type 0
     {s t : S} {slots : List RecoveringSlot} (takes : Takes gets more (old.slots.items, s) (slots, t))
     (u v : List Placed) (k : Stands old u) where
   pub stands_after : (new : Recovery) → new.plan ≡ old.plan → new.guesses ≡ old.guesses → new.slots.items ≡ slots →
-      Adds old new.port new.totals new.count more u v → Stands new v
+      Adds old (kept_by new) more u v → Stands new v
   stands_after new plan guesses same a = record {
     port = subst (λ (p : Plan). PortStands p.frames new.port v) (sym plan) a.port_is;
     sources =
@@ -63,43 +61,46 @@ module _ {S : Type 0} (gets : S → List (Event (Heard Packet)) → S → Type 0
         k.sources)));
     counted = subst (λ (p : Plan). p.frames ≢ Bare → HasCounted new.totals (recovered p.frames v)) (sym plan) a.counted;
     count = a.count_is;
+    next = a.next_is;
     rising = a.rising;
   }
 
-  pub report_after : (port : RecoveringPort) (totals : PortTotals) (count : ℕ) → Adds old port totals count more u v →
+  pub report_after : (now : Kept) → Adds old now more u v →
       report_with old.guesses old.plan v ≡ report_with old.guesses old.plan u ++ takes.0
-  report_after port totals count a =
-      report_more gets old.guesses old.plan u v more (old.slots.items, s) (slots, t) a.parts takes k.sources count
+  report_after now a =
+      report_more gets old.guesses old.plan u v more (old.slots.items, s) (slots, t) a.parts takes k.sources now.next
       a.rising
 
 -- the whole frame that a piece begins with, which the port passed over, and whose runs the sources took
 pub fronted : {S : Type 0} (gets : S → List (Event (Heard Packet)) → S → Type 0) (left : S → ℕ) (frame : PlacedFrame)
-    (n : ℕ) (piece : List ℕ) (old new : Recovery) {s t : S} → frame.at ≡ count_of old → n ≡ 16 + 2 * frame.halves →
+    (at n : ℕ) (piece : List ℕ) (old new : Recovery) {s t : S} → frame.at ≡ at → n ≡ 16 + 2 * frame.halves →
     16 + 2 * frame.halves ≤ length piece → IsGathered frame.at (take (16 + 2 * frame.halves) piece) frame →
-    plan_of new ≡ plan_of old → guesses_of new ≡ guesses_of old → count_of new ≡ count_of old + (16 + 2 * frame.halves) →
+    plan_of new ≡ plan_of old → guesses_of new ≡ guesses_of old → next_of new ≡ frame.at + (16 + 2 * frame.halves) →
     (let more : List Part = map Run (runs_of (cells frame.bytes (frame_places frame) (ports.id_of old.port))) in
     ((u : List Placed) (w : List ℕ) → Stands old u → IsGathered frame.at w frame →
-    Adds old new.port new.totals new.count more u (u ++ placed_from frame.at w)) →
+    Adds old (kept_by new) more u (u ++ placed_from frame.at w)) →
+    ((u : List Placed) (w : List ℕ) → Stands old u → IsGathered frame.at w frame →
+    EndsLast (plan_of old).frames u frame.at w) →
     Takes gets more (old.slots.items, s) (new.slots.items, t) → left s ≤ left t + 30 →
-    TakesFront gets left piece n (old, s) (new, t))
-fronted gets left frame n piece old new here size room q plan guesses count adds takes space =
+    TakesFront gets left at piece n (old, s) (new, t))
+fronted gets left frame at n piece old new here size room q plan guesses next adds late takes space =
     let more : List Part = map Run (runs_of (cells frame.bytes (frame_places frame) (ports.id_of old.port))) in
-    let at = count_of old in
     let w = take n piece in
     let is : IsGathered frame.at w frame = subst (λ (m : ℕ). IsGathered frame.at (take m piece) frame) (sym size) q in
-    let now : (u : List Placed) → Stands old u → Adds old new.port new.totals new.count more u (u ++ placed_from at w) =
-    λ u k. subst (λ (a : ℕ). Adds old new.port new.totals new.count more u (u ++ placed_from a w)) here (adds u w k is) in
+    let now : (u : List Placed) → Stands old u → Adds old (kept_by new) more u (u ++ placed_from at w) =
+    λ u k. subst (λ (a : ℕ). Adds old (kept_by new) more u (u ++ placed_from a w)) here (adds u w k is) in
     record {
       bytes = (omega (arith, size), omega (arith, size, room));
       plan = plan;
       guesses = guesses;
-      count = count ∙ ap (λ (k : ℕ). at + k) (sym size);
+      next = next ∙ ap (λ (k : ℕ). frame.at + k) (sym size) ∙ ap (λ (k : ℕ). k + n) here;
       list = λ u k. stands_after gets old more takes u (u ++ placed_from at w) k new plan guesses refl (now u k);
       given = (
         takes.0,
         takes.1,
-        λ u k. report_after gets old more takes u (u ++ placed_from at w) k new.port new.totals new.count (now u k),
+        λ u k. report_after gets old more takes u (u ++ placed_from at w) k (kept_by new) (now u k),
       );
+      late = λ m u k. subst (λ (a : ℕ). EndsLast (plan_of old).frames u a w) here (late u w k is);
       room = omega (arith, space, size);
     }
 
@@ -109,6 +110,10 @@ unread_more es fs h k counts = adds_up.more (counts, tt) (counts, tt) (counts, t
 
 none_unread : AreUnread []
 none_unread counts = adds_up.none (counts, tt)
+
+sound_more : (es fs : List (Event (Heard Packet))) → AreSound es → AreSound fs → AreSound (es ++ fs)
+sound_more [] fs h k = k
+sound_more (e ∷ es) fs h k = (h.0, sound_more es fs h.1 k)
 
 one_unread : (e : Event (Heard Packet)) → is_packet e.what ≡ false → is_fault e.what ≡ false → AreUnread (e ∷ [])
 one_unread e p f counts before h = record {
@@ -137,20 +142,32 @@ raw_unread x run = by (x == 0) (x == 125) where
   by false true = triggers_unread x run
   by false false = one_unread _ refl refl
 
+triggers_sound : (x : ℕ) (run : List Cell) → AreSound (told (Some x) (triggers run))
+triggers_sound x [] = tt
+triggers_sound x (c ∷ run) = (refl, triggers_sound x run)
+
+raw_sound : (x : ℕ) (run : List Cell) → AreSound (told (Some x) (raw_events x run))
+raw_sound x run = by (x == 0) (x == 125) where
+  by : (s t : Bool) → AreSound (told (Some x) (cond s [] (cond t (triggers run)
+      ((Raw (bytes_of run), record { at = last_at run; half = 0 }) ∷ []))))
+  by true t = tt
+  by false true = triggers_sound x run
+  by false false = (refl, tt)
+
 abbrev pub unread : Unit {0} → List (Event (Heard Packet)) → Unit {0} → Type 0
-unread s es t = AreUnread es
+unread s es t = AreUnread es × AreSound es
 
 one_run : (run : List Cell) (o : Option ℕ) → id_of run ≡ o → Takes unread (Run run ∷ []) ([], tt) ([], tt)
-one_run run None e = ([], none_unread, λ guesses plan parts k. grown_none guesses plan parts run [] e k)
+one_run run None e = ([], (none_unread, tt), λ guesses plan parts k. grown_none guesses plan parts run [] e k)
 one_run run (Some x) e = (
   told (Some x) (raw_events x run),
-  raw_unread x run,
+  (raw_unread x run, raw_sound x run),
   λ guesses plan parts k. grown_raw guesses plan parts run x [] e refl k,
 )
 
 -- where no source is mapped each run of a frame is such
 pub all_unread : (runs : List (List Cell)) → Takes unread (map Run runs) ([], tt) ([], tt)
-all_unread [] = takes_none unread (λ s. none_unread) ([], tt)
+all_unread [] = takes_none unread (λ s. (none_unread, tt)) ([], tt)
 all_unread (run ∷ runs) =
-    takes_then unread (λ a b c es fs h k. unread_more es fs h k) ([], tt) ([], tt) ([], tt) (Run run ∷ [])
-    (map Run runs) (one_run run (id_of run) refl) (all_unread runs)
+    takes_then unread (λ a b c es fs h k. (unread_more es fs h.0 k.0, sound_more es fs h.1 k.1)) ([], tt) ([], tt) ([], tt)
+    (Run run ∷ []) (map Run runs) (one_run run (id_of run) refl) (all_unread runs)

@@ -1,3 +1,7 @@
+pub mod Refilled
+pub mod Rising
+pub mod Triggers
+pub mod Below
 pub mod Adding
 pub mod Blocks
 pub mod PortCounts

@@ -1,32 +1,41 @@
 -- A whole frame of the port: it ends its runs, and what is counted grows by it.
 use Rattle.std.proofs.Common.{◌≡◌, ◌≢◌, ℕ, ◌+◌, List, [], ◌∷◌, ◌++◌, refl, sym, ◌∙◌, ap, subst, arith}
-use Rattle.std.proofs.Common.{append_assoc, append-nil, Bool, true, false, Option, None}
+use Rattle.std.proofs.Common.{append_assoc, append-nil, Bool, true, false, Option, None, inl, inr}
 use Rattle.std.specs.Prelude.{map, flat_map, if◌then◌else◌}
 use Rattle.std.proofs.lemmas.List.Sums.{sum_by_push}
 use Rattle.trace_values.specs.declared.cell.Cell.{Cell}
-use Rattle.trace_values.specs.Placed.{Place, Placed, placed_from, units_of}
+use Rattle.trace_values.specs.Placed.{Place, Placed, byte_at, placed_from, units_of}
 use Rattle.trace_values.specs.declared.reading_modes.FramesMode.{FramesMode}
 use Rattle.trace_values.specs.declared.reading_modes.FramesMode.TheVariants.{Hunt, Aligned, Bare}
 use Rattle.frame_grammar.specs.Frame.{cells}
 use Rattle.frame_grammar.specs.Port.{PortItem}
+use Rattle.frame_grammar.specs.Port.{Half as HalfItem}
 use Rattle.frame_grammar.specs.Reading.{offsets_of}
 use Rattle.deformatter.specs.Frames as frames
 use Rattle.deformatter.specs.PortReading.{framed}
-use Rattle.deformatter.specs.Reading.{port_stream}
+use Rattle.deformatter.specs.Block.{EachByte, IsInside}
+use Rattle.deformatter.specs.Growth.{ItemsBy, place_at}
+use Rattle.deformatter.specs.Names.{cells_of_items}
+use Rattle.deformatter.specs.Reading.{PortStream, cells_in, items_of, port_stream}
+use Rattle.deformatter.specs.declared.step.PortStep.TheVariants.{Half, Quiet}
 use Rattle.deformatter.specs.ReadingGrowth as readings
+use Rattle.frame_grammar.proofs.Items.{cells_of_items-push}
+use Rattle.deformatter.proofs.Growing.{items_push}
 use Rattle.deformatter.proofs.ReaderFeeding.{reading_frame}
 use Rattle.source_events.specs.Runs.{all_runs, runs_of}
 use Rattle.source_events.proofs.LockSteps.{locked}
-use Rattle.stretch_readings.specs.Stretches.{Stretches}
+use Rattle.stretch_readings.specs.Stretches.{One, Stretches, fed}
 use Rattle.recovering_machines.specs.Port as ports
-use Rattle.recovering_machines.specs.Port.{PassesFrame, id_of, items_by, with_bytes, with_units}
+use Rattle.recovering_machines.specs.Port.{PassesFrame, from_halfword, id_of, items_by, with_bytes, with_units}
 use Rattle.recovering_machines.specs.declared.port.RecoveringPort.{RecoveringPort}
-use Rattle.recovering_machines.proofs.Feeding.{none_before, same}
+use Rattle.recovering_machines.proofs.Feeding.{byte_goes, none_before, same}
 use Rattle.recovery_report.specs.Port.{PortStretch, of_stretches, port_stretches, recovered, stretch_of}
 use Rattle.recovery_report.specs.Report.{Part, Run, break_of, lock_of, parts_in, parts_of}
 use Rattle.recovery_report.proofs.CountLaws.{frames_push}
+use Rattle.recovery_report.proofs.PortLaws as laws
 use Rattle.recovery_report.proofs.PortLaws.{all_parts, lock_same, runs_push}
 use Rattle.recovery_engine.specs.Counting.{GrowsByFrame}
+use Rattle.recovery_engine.specs.Front.{EndsLast}
 use Rattle.recovery_engine.specs.Port.{PortStands}
 use Rattle.recovery_engine.proofs.Feeding.{port_more}
 
@@ -128,6 +137,42 @@ module _ (r : Stretches) (at : ℕ) (bytes : List ℕ) (f : List Placed) (inner 
   stretch_counts =
       subst (λ (s : Stretches). GrowsByFrame (of_stretches r) (of_stretches s) inner got) (sym p.list) counts
 
+-- the bytes of a frame before its last end nothing
+half_cells : (a b : PortStream) (at : ℕ) → ItemsBy a.items b.items at Half → cells_in b ≡ cells_in a ++ []
+half_cells a b at (inl e) =
+    ap (λ i. cells_of_items None (items_of i)) e ∙ sym (append-nil (cells_in a))
+half_cells a b at (inr e) =
+    ap (λ i. cells_of_items None (items_of i)) e
+    ∙ ap (cells_of_items None) (items_push a.items HalfItem (place_at at))
+    ∙ cells_of_items-push None (items_of a.items) HalfItem
+
+-- a byte of a frame before its last, and those after it
+inside_then : (front : List ℕ) (r : Stretches) (at x : ℕ) → (let w = r.now.units ++ byte_at at x ∷ [] in
+    (port_stream r.now.hunts w).fault ≡ None →
+    parts_in (of_stretches (fed items_by from_halfword r (One (byte_at at x)))) ≡ parts_in (of_stretches r) →
+    parts_in (of_stretches (with_bytes (with_units r w) (at + 1) front)) ≡ parts_in (of_stretches (with_units r w)) →
+    parts_in (of_stretches (with_bytes r at (x ∷ front))) ≡ parts_in (of_stretches r))
+inside_then front r at x sound one rest =
+    let goes = byte_goes r at x sound in
+    ap (λ (s : Stretches). parts_in (of_stretches (with_bytes s (at + 1) front))) goes
+    ∙ rest ∙ ap (λ (s : Stretches). parts_in (of_stretches s)) (sym goes) ∙ one
+
+inside_parts : (front : List ℕ) (r : Stretches) (at : ℕ) → (port_stream r.now.hunts r.now.units).fault ≡ None →
+    EachByte (IsInside r.now.hunts) r.now.units at front →
+    parts_in (of_stretches (with_bytes r at front)) ≡ parts_in (of_stretches r)
+inside_parts [] r at none e = refl
+inside_parts (x ∷ front) r at none e =
+    let old = port_stream r.now.hunts r.now.units in
+    let w : List Placed = r.now.units ++ byte_at at x ∷ [] in
+    let new = port_stream r.now.hunts w in
+    elim e.0 [
+      | inl g ↦ inside_then front r at x g.fault (laws.port r at x Quiet [] none g
+          (ap (λ i. cells_of_items None (items_of i)) g.items ∙ sym (append-nil (cells_in old)))
+          ∙ append-nil (parts_in (of_stretches r))) (inside_parts front (with_units r w) (at + 1) g.fault e.1)
+      | inr g ↦ inside_then front r at x g.fault (laws.port r at x Half [] none g (half_cells old new at g.items)
+          ∙ append-nil (parts_in (of_stretches r))) (inside_parts front (with_units r w) (at + 1) g.fault e.1)
+    ]
+
 -- of a port that stood for a capture
 module _ (old : RecoveringPort) (at : ℕ) (bytes : List ℕ) (f : List Placed) (inner : ℕ)
     (p : (r : Stretches) → ports.Stands old r → PassesFrame r at bytes f inner (id_of old)) where
@@ -163,3 +208,24 @@ module _ (old : RecoveringPort) (at : ℕ) (bytes : List ℕ) (f : List Placed) 
       subst (λ s. GrowsByFrame (recovered Hunt u) (of_stretches s) inner given)
       (sym (port_more Hunt u (placed_from at bytes)))
       (stretch_counts r at bytes f inner (id_of old) (p r k) (none_in r k))
+
+  late_by : (mode : FramesMode) (u : List Placed) (r : Stretches) (k : ports.Stands old r) → port_stretches mode u ≡ r →
+      ((v : List Placed) → recovered mode v ≡ of_stretches (port_stretches mode v)) → EndsLast mode u at bytes
+  late_by mode u r k e framed =
+      let t = (p r k).fed in
+      record {
+        front = t.front;
+        last = t.last;
+        are = t.parts;
+        quiet =
+            ap parts_in (framed (u ++ placed_from at t.front))
+            ∙ ap (λ s. parts_in (of_stretches s)) (port_more mode u (placed_from at t.front)
+            ∙ ap (λ (s : Stretches). with_bytes s at t.front) e)
+            ∙ inside_parts t.front r at (none_in r k) t.quiet
+            ∙ ap (λ (s : Stretches). parts_in (of_stretches s)) (sym e) ∙ ap parts_in (sym (framed u));
+      }
+
+  pub frame_late : (mode : FramesMode) (u : List Placed) → mode ≢ Bare → PortStands mode old u → EndsLast mode u at bytes
+  frame_late Bare u m k = absurd (m refl)
+  frame_late Aligned u m k = late_by Aligned u (port_stretches Aligned u) k refl (λ v. refl)
+  frame_late Hunt u m k = late_by Hunt u (port_stretches Hunt u) k refl (λ v. refl)

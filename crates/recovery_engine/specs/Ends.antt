@@ -1,5 +1,5 @@
 -- How a recovering engine ends.
-use Rattle.std.specs.Prelude.{◌≡◌, ℕ, List, Bool, Option, None, Some}
+use Rattle.std.specs.Prelude.{◌≡◌, ℕ, List, [], ◌∷◌, Bool, Option, None, Some}
 use Rattle.trace_values.specs.declared.reading_modes.FramesMode.{FramesMode}
 use Rattle.source_events.specs.declared.plan.Plan.{Plan}
 use Rattle.source_events.specs.declared.plan.SourceKind.{SourceKind}
@@ -21,3 +21,8 @@ EndsAs id kind None tail = tail ≡ None
 EndsAs id kind (Some s) tail = (guesses : Bool) (plan : Plan) (parts : List Part) →
     IsSource guesses plan parts id s → kind_of s ≡ kind →
     tail ≡ Some (tail_of plan parts id kind)
+
+-- what may be there, as a list
+abbrev pub all_of : {X : Type 0} → Option X → List X
+all_of None = []
+all_of (Some x) = x ∷ []

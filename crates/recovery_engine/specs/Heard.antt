@@ -1,5 +1,5 @@
 -- What counters of events have counted.
-use Rattle.std.specs.Prelude.{◌≡◌, ◌≤◌, ℕ, ◌-◌, List, ◌++◌, ◌&&◌, Bool, true, false, Some}
+use Rattle.std.specs.Prelude.{◌≡◌, ◌≤◌, ℕ, ◌-◌, List, [], ◌∷◌, ◌++◌, ◌&&◌, Bool, true, false, Some, IsOk}
 use Rattle.std.specs.List.{count_by}
 use Rattle.trace_values.specs.declared.limits.TheConstants.{COUNT_ROOM}
 use Rattle.source_events.specs.declared.event.Event.{Event}
@@ -7,9 +7,10 @@ use Rattle.source_events.specs.declared.event.What.{What}
 use Rattle.source_events.specs.declared.event.What.TheVariants.{Packet as Said}
 use Rattle.source_events.specs.declared.packet.Packet.{Packet}
 use Rattle.source_events.specs.Merge.{is_of}
-use Rattle.source_merge.specs.Counting.{number_of}
+use Rattle.recovery_engine.specs.PerSource.{number_of}
 use Rattle.stretch_readings.specs.declared.heard.Heard.{Heard}
 use Rattle.stretch_readings.specs.declared.heard.Heard.TheVariants.{Read}
+use Rattle.recovering_machines.specs.Hearing.{as_strict}
 use Rattle.recovery_report.specs.Counts.{faults_in}
 use Rattle.recovery_engine.specs.declared.heard_counts.HeardCounts.{HeardCounts}
 
@@ -42,3 +43,8 @@ gets old es new = (before : List (Event (Heard Packet))) → HasHeard old.0 befo
 -- counters stay as they are with these events: none is a packet or a fault
 abbrev pub AreUnread : List (Event (Heard Packet)) → Type 0
 AreUnread es = (counts : HeardCounts) → gets (counts, tt) es (counts, tt)
+
+-- none of these events is a fault
+abbrev pub AreSound : List (Event (Heard Packet)) → Type 0
+AreSound [] = Unit {0}
+AreSound (e ∷ es) = IsOk (as_strict e.what) × AreSound es

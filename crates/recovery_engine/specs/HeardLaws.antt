@@ -5,7 +5,7 @@ use Rattle.source_events.specs.declared.packet.Packet.{Packet}
 use Rattle.stretch_readings.specs.declared.heard.Heard.{Heard}
 use Rattle.recovery_engine.specs.declared.heard_counts.HeardCounts.{HeardCounts}
 use Rattle.recovery_engine.specs.Heard.{HasHeard, gets}
-use Rattle.source_merge.specs.Giving.{AddsUp}
+use Rattle.recovering_machines.specs.Hearing.{AddsUp}
 
 -- given nothing they are as before
 gets_none : (s : HeardCounts × Unit {0}) → gets s [] s

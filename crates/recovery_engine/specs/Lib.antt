@@ -1,3 +1,4 @@
+pub mod PerSource
 pub mod Port
 pub mod Slots
 pub mod Fresh

@@ -78,8 +78,7 @@ impl PortTotals {
     pub fn of(&self, id: SourceId) -> Counts
         ensures value { (r : PortStretches) → HasCounted self.now r →
             result ≡ record { bytes = bytes_of id (frames_of r); items = items_of id (frames_of r) } }
-        ensures bytes { (r : PortStretches) → HasCounted self.now r → result.bytes ≤ counted_of self.now }
-        ensures items { (r : PortStretches) → HasCounted self.now r → result.items ≤ counted_of self.now }
+        ensures few { (result.bytes ≤ counted_of self.now) × (result.items ≤ counted_of self.now) }
     {
         self.frames.of(id)
     }

@@ -5,7 +5,7 @@ ghost use Rattle.trace_values.specs.Placed.{Placed};
 ghost use Rattle.trace_values.specs.declared.limits.TheConstants.{COUNT_ROOM, ID_COUNT};
 ghost use Rattle.source_events.specs.Plan.{kind_of};
 ghost use Rattle.source_events.specs.declared.plan.TheConstants.{MAPPED_SOURCES};
-ghost use Rattle.source_merge.specs.Ending.{all_of};
+ghost use Rattle.recovery_engine.specs.Ends.{all_of};
 ghost use Rattle.recovering_machines.specs.Port as ports;
 ghost use Rattle.recovering_machines.specs.Mapped.{total_of};
 ghost use Rattle.recovery_report.specs.Port.{recovered};

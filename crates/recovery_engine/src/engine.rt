@@ -6,19 +6,17 @@ ghost use Rattle.recovery_engine.specs.Counting.{counted_of};
 ghost use Rattle.recovery_engine.specs.Slots.{total};
 ghost use Rattle.recovery_engine.specs.declared.engine.TheConstants.{END_ROOM, GREATEST_OFFSET};
 
-use crate::bare::bare_source;
 use crate::counts::PortTotals;
 use crate::ends::{port_end, source_tails};
 use crate::router::{take_each, take_step, take_whole};
 use crate::slot::{Slots, slots_of};
 use arrayvec::ArrayVec;
 use frame_grammar::gather::PlacedFrame;
-use frame_runs::place_frame;
+use frame_runs::{PieceRun, bare_source, place_frame};
 use recovering_machines::{Hearer, RecoveringPort};
 use source_counts::Counts;
 use source_events::{Plan, PortCounts, SourceKind, Tails};
 use source_machine::AHEAD;
-use source_merge::PieceRun;
 use trace_values::{Cell, FramesMode, SourceId};
 
 /// The greatest offset of a byte of a capture.
@@ -54,12 +52,15 @@ pub struct Recovery {
     totals: PortTotals,
     /// The cells of the frame that is taken.
     cells: ArrayVec<Cell, 15>,
-    /// How many bytes were fed: the offset of the next one.
+    /// How many bytes were fed.
     count: u64,
+    /// One more than the last offset.
+    next: u64,
     ghost port_few: { total_of port ≤ 8 * count },
     ghost few: { total slots.items ≤ 90 * count },
     ghost counted_few: { counted_of totals ≤ 16 * count },
-    ghost limit: { count ≤ GREATEST_OFFSET + 1 },
+    ghost within: { count ≤ next },
+    ghost limit: { next ≤ GREATEST_OFFSET + 1 },
 }
 
 impl Recovery {
@@ -71,11 +72,11 @@ impl Recovery {
     ghost use Rattle.recovering_machines.specs.Port.{IsBetween};
     ghost use Rattle.source_counts.specs.Counts.{bytes_of, items_of, unattributed_of};
     ghost use Rattle.source_events.specs.Plan as plans;
-    ghost use Rattle.source_merge.specs.Piece.{bytes_in};
+    ghost use Rattle.frame_runs.specs.Piece.{bytes_in};
     ghost use Rattle.recovery_report.specs.Counts.{port_counts_of};
     ghost use Rattle.recovery_report.specs.Port.{frames_of, recovered};
     ghost use Rattle.recovery_report.specs.Report.{tails_of};
-    ghost use Rattle.recovery_engine.specs.Engine.{Stands, count_of, guesses_of, plan_of};
+    ghost use Rattle.recovery_engine.specs.Engine.{Stands, guesses_of, next_of, plan_of};
     ghost use Rattle.recovery_engine.specs.Front.{CountsFront, PassesGathered, TakesFront};
 
     /// An engine before the first byte.
@@ -83,7 +84,7 @@ impl Recovery {
         ensures plan { plan_of result ≡ plan }
         ensures guesses { guesses_of result ≡ guesses }
         ensures fresh { Stands result [] }
-        ensures count { count_of result ≡ 0 }
+        ensures next { next_of result ≡ 0 }
     {
         let slots = slots_of(&plan, guesses);
         let port = match plan.frames {
@@ -98,46 +99,49 @@ impl Recovery {
             totals: PortTotals::new(),
             cells: ArrayVec::new(),
             count: 0,
+            next: 0,
         }
     }
 
-    /// Takes bytes from the front of a piece, which comes next, and gives the events that the recovering report grows
-    /// by: a whole frame, or else bytes up to the first one that ends a frame or a synchronisation, or is a fault, or
-    /// to the piece's end. With no formatter it takes bytes for whose events there is room.
+    /// Takes bytes from the front of a piece, the first of which is at this offset, and gives the events that the
+    /// recovering report grows by: a whole frame, or else bytes up to the first one that ends a frame or a
+    /// synchronisation, or is a fault, or to the piece's end. With no formatter it takes bytes for whose events there is
+    /// room.
     ///
-    /// The piece has a byte, and there is room for 30 events.
-    pub fn take<V: Hearer>(&mut self, piece: &[u8], out: &mut V, to: &mut V::To) -> usize
+    /// The piece has a byte, and there is room for 30 events. Its first offset is at least `next()`, and its last one at
+    /// most `GREATEST_OFFSET`.
+    pub fn take<V: Hearer>(&mut self, at: u64, piece: &[u8], out: &mut V, to: &mut V::To) -> usize
         requires some { 0 < length piece.now }
-        requires limit { count_of self.old + length piece.now ≤ GREATEST_OFFSET + 1 }
+        requires offsets { (next_of self.old ≤ at) × (at + length piece.now ≤ GREATEST_OFFSET + 1) }
         requires room { 30 ≤ V.room (out.old, to.old) }
-        ensures { TakesFront V.gets V.room piece.now result
+        ensures { TakesFront V.gets V.room at piece.now result
             (self.old, (out.old, to.old)) (self.new, (out.new, to.new)) }
     {
         match self.plan.frames {
             FramesMode::Bare => {
                 if piece.len() > END_ROOM {
-                    self.take_long(piece, out, to)
+                    self.take_long(at, piece, out, to)
                 } else {
-                    self.take_short(piece, out, to)
+                    self.take_short(at, piece, out, to)
                 }
             }
-            FramesMode::Hunt | FramesMode::Aligned => self.take_framed(piece, out, to),
+            FramesMode::Hunt | FramesMode::Aligned => self.take_framed(at, piece, out, to),
         }
     }
 
     /// Takes bytes of a long piece of a capture with no formatter, where they are.
     #[inline(always)]
-    fn take_long<V: Hearer>(&mut self, piece: &[u8], out: &mut V, to: &mut V::To) -> usize
+    fn take_long<V: Hearer>(&mut self, at: u64, piece: &[u8], out: &mut V, to: &mut V::To) -> usize
         requires bare { self.old.plan.frames ≡ Bare }
         requires some { END_ROOM < length piece.now }
-        requires limit { count_of self.old + length piece.now ≤ GREATEST_OFFSET + 1 }
+        requires offsets { (next_of self.old ≤ at) × (at + length piece.now ≤ GREATEST_OFFSET + 1) }
         requires room { 30 ≤ V.room (out.old, to.old) }
-        ensures { TakesFront V.gets V.room piece.now result
+        ensures { TakesFront V.gets V.room at piece.now result
             (self.old, (out.old, to.old)) (self.new, (out.new, to.new)) }
     {
         let count = (out.events_left(to) / 2).min(piece.len() - AHEAD);
         let run = PieceRun {
-            at: self.count,
+            at,
             count,
             ahead: piece,
         };
@@ -146,19 +150,19 @@ impl Recovery {
 
     /// Takes bytes of a short piece of a capture with no formatter, which are copied.
     #[inline(never)]
-    fn take_short<V: Hearer>(&mut self, piece: &[u8], out: &mut V, to: &mut V::To) -> usize
+    fn take_short<V: Hearer>(&mut self, at: u64, piece: &[u8], out: &mut V, to: &mut V::To) -> usize
         requires bare { self.old.plan.frames ≡ Bare }
         requires some { 0 < length piece.now }
-        requires limit { count_of self.old + length piece.now ≤ GREATEST_OFFSET + 1 }
+        requires offsets { (next_of self.old ≤ at) × (at + length piece.now ≤ GREATEST_OFFSET + 1) }
         requires room { 30 ≤ V.room (out.old, to.old) }
-        ensures { TakesFront V.gets V.room piece.now result
+        ensures { TakesFront V.gets V.room at piece.now result
             (self.old, (out.old, to.old)) (self.new, (out.new, to.new)) }
     {
         let most = (out.events_left(to) / 2).min(END_ROOM - AHEAD);
         let count = most.min(piece.len());
         let ahead = padded(piece, count);
         let run = PieceRun {
-            at: self.count,
+            at,
             count,
             ahead: &ahead,
         };
@@ -169,30 +173,36 @@ impl Recovery {
     #[inline(always)]
     fn take_piece<V: Hearer>(&mut self, run: &PieceRun, out: &mut V, to: &mut V::To) -> usize
         requires bare { self.old.plan.frames ≡ Bare }
-        requires here { run.now.at ≡ count_of self.old }
         requires some { 0 < run.now.count }
-        requires limit { count_of self.old + run.now.count ≤ GREATEST_OFFSET + 1 }
+        requires offsets { (next_of self.old ≤ run.now.at) × (run.now.at + run.now.count ≤ GREATEST_OFFSET + 1) }
         requires room { 2 * run.now.count ≤ V.room (out.old, to.old) }
-        ensures { TakesFront V.gets V.room (bytes_in run.now) result
+        ensures { TakesFront V.gets V.room run.now.at (bytes_in run.now) result
             (self.old, (out.old, to.old)) (self.new, (out.new, to.new)) }
     {
         take_each(self.slots.as_mut_slice(), bare_source(), run, out, to);
         self.count += run.count as u64;
+        self.next = run.at + run.count as u64;
         run.count
     }
 
     /// Takes the whole frame that a piece begins with, with half synchronisations between its halfwords or without, or
     /// else bytes as `take_step` does.
-    fn take_framed<V: Hearer>(&mut self, piece: &[u8], out: &mut V, to: &mut V::To) -> usize
+    fn take_framed<V: Hearer>(
+        &mut self,
+        at: u64,
+        piece: &[u8],
+        out: &mut V,
+        to: &mut V::To,
+    ) -> usize
         requires framed { self.old.plan.frames ≢ Bare }
         requires some { 0 < length piece.now }
-        requires limit { count_of self.old + length piece.now ≤ GREATEST_OFFSET + 1 }
+        requires offsets { (next_of self.old ≤ at) × (at + length piece.now ≤ GREATEST_OFFSET + 1) }
         requires room { 30 ≤ V.room (out.old, to.old) }
-        ensures { TakesFront V.gets V.room piece.now result
+        ensures { TakesFront V.gets V.room at piece.now result
             (self.old, (out.old, to.old)) (self.new, (out.new, to.new)) }
     {
-        let Some(frame) = self.frame_at(piece) else {
-            return self.take_step(piece, out, to);
+        let Some(frame) = self.frame_at(at, piece) else {
+            return self.take_step(at, piece, out, to);
         };
         let before = self.port.id();
         self.pass_gathered(&frame);
@@ -200,13 +210,13 @@ impl Recovery {
         frame.size()
     }
 
-    /// The whole frame that a piece begins with, which comes next, where the port is between two frames.
+    /// The whole frame that a piece begins with, whose first byte is at this offset, where the port is between two frames.
     #[inline(always)]
-    fn frame_at(&self, piece: &[u8]) -> Option<PlacedFrame>
-        requires limit { count_of self.now + length piece.now ≤ GREATEST_OFFSET + 1 }
+    fn frame_at(&self, at: u64, piece: &[u8]) -> Option<PlacedFrame>
+        requires limit { at + length piece.now ≤ GREATEST_OFFSET + 1 }
         ensures between { IfSome result (λ frame. (self.now.plan.frames ≢ Bare) × IsBetween self.now.port) }
         ensures within { IfSome result (λ frame. FRAME_BYTES + 2 * frame.halves ≤ length piece.now) }
-        ensures here { IfSome result (λ frame. frame.at ≡ count_of self.now) }
+        ensures here { IfSome result (λ frame. frame.at ≡ at) }
         ensures is { IfSome result (λ frame.
             IsGathered frame.at (take (FRAME_BYTES + 2 * frame.halves) piece.now) frame) }
     {
@@ -214,7 +224,7 @@ impl Recovery {
             FramesMode::Bare => None,
             FramesMode::Hunt | FramesMode::Aligned => {
                 if self.port.is_between() {
-                    place_frame(self.count, piece)
+                    place_frame(at, piece)
                 } else {
                     None
                 }
@@ -227,29 +237,31 @@ impl Recovery {
     fn pass_gathered(&mut self, frame: &PlacedFrame)
         requires framed { self.old.plan.frames ≢ Bare }
         requires between { IsBetween self.old.port }
-        requires limit { count_of self.old + (FRAME_BYTES + 2 * frame.now.halves) ≤ GREATEST_OFFSET + 1 }
-        requires here { frame.now.at ≡ count_of self.old }
+        requires offsets { (next_of self.old ≤ frame.now.at)
+            × (frame.now.at + (FRAME_BYTES + 2 * frame.now.halves) ≤ GREATEST_OFFSET + 1) }
         ensures { PassesGathered frame.now self.old self.new }
     {
         let before = self.port.id();
         let after = self.totals.add_frame(&frame.bytes, frame.halves, before);
         self.port.pass_frame(after);
-        self.count += frame.size() as u64;
+        let bytes = frame.size() as u64;
+        self.count += bytes;
+        self.next = frame.at + bytes;
     }
 
-    /// Where no source is mapped: takes the whole frame that a piece begins with, which comes next, and answers how
-    /// many bytes that is. It leaves what `take` does; the frame's events, none of which is a packet or a fault, are
-    /// not made. None says nothing of the bytes, and takes none.
+    /// Where no source is mapped: takes the whole frame that a piece begins with, whose first byte is at this offset, and
+    /// answers how many bytes that is. It leaves what `take` does; the frame's events, none of which is a packet or a
+    /// fault, are not made. None says nothing of the bytes, and takes none.
     #[inline]
-    pub fn count_frame(&mut self, piece: &[u8]) -> Option<usize>
-        requires limit { count_of self.old + length piece.now ≤ GREATEST_OFFSET + 1 }
+    pub fn count_frame(&mut self, at: u64, piece: &[u8]) -> Option<usize>
+        requires offsets { (next_of self.old ≤ at) × (at + length piece.now ≤ GREATEST_OFFSET + 1) }
         ensures none { result ≡ None → self.new ≡ self.old }
-        ensures counts { IfSome result (λ n. CountsFront piece.now n self.old self.new) }
+        ensures counts { IfSome result (λ n. CountsFront at piece.now n self.old self.new) }
     {
         if !self.maps_none() {
             return None;
         }
-        let Some(frame) = self.frame_at(piece) else {
+        let Some(frame) = self.frame_at(at, piece) else {
             return None;
         };
         self.pass_gathered(&frame);
@@ -258,21 +270,22 @@ impl Recovery {
 
     /// Takes bytes of a capture in frames up to the first one that ends a frame or a synchronisation, or is a fault, or
     /// to the piece's end.
-    fn take_step<V: Hearer>(&mut self, piece: &[u8], out: &mut V, to: &mut V::To) -> usize
+    fn take_step<V: Hearer>(&mut self, at: u64, piece: &[u8], out: &mut V, to: &mut V::To) -> usize
         requires framed { self.old.plan.frames ≢ Bare }
         requires some { 0 < length piece.now }
-        requires limit { count_of self.old + length piece.now ≤ GREATEST_OFFSET + 1 }
+        requires offsets { (next_of self.old ≤ at) × (at + length piece.now ≤ GREATEST_OFFSET + 1) }
         requires room { 30 ≤ V.room (out.old, to.old) }
-        ensures { TakesFront V.gets V.room piece.now result
+        ensures { TakesFront V.gets V.room at piece.now result
             (self.old, (out.old, to.old)) (self.new, (out.new, to.new)) }
     {
         self.cells.clear();
-        let taken = self.port.feed_block(self.count, piece, &mut self.cells);
+        let taken = self.port.feed_block(at, piece, &mut self.cells);
         let cells = self.cells.as_slice();
         self.totals.add_step(&taken.step, cells);
-        let last = self.count + (taken.bytes as u64 - 1);
+        let last = at + (taken.bytes as u64 - 1);
         take_step(self.slots.as_mut_slice(), last, taken.step, cells, out, to);
         self.count += taken.bytes as u64;
+        self.next = at + taken.bytes as u64;
         taken.bytes
     }
 
@@ -284,12 +297,12 @@ impl Recovery {
         self.slots.is_empty()
     }
 
-    /// The offset of the next byte: how many were fed.
+    /// 0 at first, and then one more than the last offset that was fed.
     pub fn next(&self) -> u64
-        ensures count { result ≡ count_of self.now }
-        ensures limit { count_of self.now ≤ GREATEST_OFFSET + 1 }
+        ensures next { result ≡ next_of self.now }
+        ensures limit { next_of self.now ≤ GREATEST_OFFSET + 1 }
     {
-        self.count
+        self.next
     }
 
     /// What kind a source is of, if it is mapped.
@@ -304,8 +317,7 @@ impl Recovery {
         ensures value { (u : List Placed) → Stands self.now u →
             let frames = frames_of (recovered (plan_of self.now).frames u) in
             result ≡ record { bytes = bytes_of id frames; items = items_of id frames } }
-        ensures few { (u : List Placed) → Stands self.now u →
-            (result.bytes ≤ 16 * count_of self.now) × (result.items ≤ 16 * count_of self.now) }
+        ensures few { (result.bytes ≤ 16 * next_of self.now) × (result.items ≤ 16 * next_of self.now) }
     {
         match self.plan.frames {
             FramesMode::Bare => {
@@ -321,7 +333,7 @@ impl Recovery {
 
     /// How many bytes a source has where there is no formatter, each of which is an item.
     fn bare_bytes(&self, id: SourceId) -> u64
-        ensures { result ≡ (if 1 == id then count_of self.now else 0) }
+        ensures { result ≡ (if 1 == id then self.now.count else 0) }
     {
         if id == bare_source() { self.count } else { 0 }
     }

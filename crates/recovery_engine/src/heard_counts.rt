@@ -1,15 +1,16 @@
 //! Counts the events of a recovering report.
 
 ghost use Rattle.std.specs.Prelude.{◌≡◌, [], ℕ, ◌+◌, ◌<◌, ◌≤◌, if◌then◌else◌};
-ghost use Rattle.source_merge.specs.Counting.{total_of};
+ghost use Rattle.recovery_engine.specs.PerSource.{total_of};
 ghost use Rattle.trace_values.specs.declared.limits.TheConstants.{COUNT_ROOM};
 ghost use Rattle.std.specs.Prelude.{Some};
 ghost use Rattle.source_events.specs.Merge.{is_of};
 
+use crate::per_source::PerSource;
+use itm_grammar::packet::ItmPacket;
 use recovering_machines::Hearer;
 use source_events::{Event, Packet, SourceKind, What};
-use source_machine::Told;
-use source_merge::PerSource;
+use stp_grammar::said::Said;
 use stretch_readings::Heard;
 use trace_values::{COUNT_ROOM, SourceId};
 
@@ -31,7 +32,7 @@ impl HeardCounts {
     ghost use Rattle.source_events.specs.declared.packet.Packet.{Packet};
     ghost use Rattle.stretch_readings.specs.declared.heard.Heard.{Heard};
     ghost use Rattle.recovery_report.specs.Counts.{faults_in};
-    ghost use Rattle.source_merge.specs.Counting.{number_of};
+    ghost use Rattle.recovery_engine.specs.PerSource.{number_of};
     ghost use Rattle.recovery_engine.specs.Heard.{HasHeard, heard_of, packets_in};
 
     /// No event came yet.
@@ -103,6 +104,8 @@ impl Hearer for HeardCounts {
 
     ghost adds_up = { adds_up };
 
+    ghost takes_on = { λ a b es source kind g t. t };
+
     fn hear(&mut self, _to: &mut (), event: Event<Heard<Packet>>) {
         match event.what {
             What::Packet(Heard::Read(_)) => self.add_packet(event.source),
@@ -123,7 +126,19 @@ impl Hearer for HeardCounts {
     }
 
     #[inline(always)]
-    fn hear_told(&mut self, _to: &mut (), _at: u64, _half: u8, source: SourceId, _told: Told) {
+    fn hear_itm(
+        &mut self,
+        _to: &mut (),
+        _at: u64,
+        _half: u8,
+        source: SourceId,
+        _packet: ItmPacket,
+    ) {
+        self.add_packet(Some(source));
+    }
+
+    #[inline(always)]
+    fn hear_said(&mut self, _to: &mut (), _at: u64, _half: u8, source: SourceId, _said: Said) {
         self.add_packet(Some(source));
     }
 

@@ -10,9 +10,9 @@ ghost use Rattle.recovery_engine.specs.Slots.{source_at, total};
 ghost use Rattle.recovery_engine.specs.Taking.{AreCut, TakesOwn};
 
 use arrayvec::ArrayVec;
+use frame_runs::Run;
 use recovering_machines::{Hearer, MappedSource};
 use source_events::{MAPPED_SOURCES, Plan, SourceKind};
-use source_merge::Run;
 use stp_grammar::packet::Order;
 use trace_values::{PacketsMode, SourceId};
 

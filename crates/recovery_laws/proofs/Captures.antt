@@ -16,6 +16,10 @@ use Rattle.source_events.specs.Merge.{told, cut, AllIn, Below, IsAtMost, start_o
 use Rattle.source_events.specs.Plan.{is_sound, kind_of, sources_by}
 use Rattle.source_events.specs.Report.{Mapped, AreLawful, all_events, events, least_fault, lesser, lock_at, of_source}
 use Rattle.source_events.specs.Report.{port_events, runs_in, stop_in}
+use Rattle.source_events.specs.Report.{report as strict_report}
+use Rattle.source_events.specs.Tails.{items_in}
+use Rattle.source_counts.specs.Counts.{items_of}
+use Rattle.source_events.proofs.ReportCounts.{items_captured}
 use Rattle.source_events.specs.Runs.{id_of, IsRunFrom, end_of}
 use Rattle.source_events.proofs.Family.{adds}
 use Rattle.source_events.proofs.Growth.{between_weaker, sound_first}
@@ -212,6 +216,32 @@ module _ (plan : Plan) (sound : is_sound plan ≡ true) (lo hi : ℕ) (u : List 
                   ∙ ap (λ l. upto (runs_report plan rs) ++ l) (sym (ap upto rest ∙ q.0)) ∙ sym b.0) ∙ sym after.0;
               fault = stop ∙ sym q.1 ∙ ap first_fault (sym rest) ∙ sym b.1 ∙ sym after.1;
             }
+
+  -- where no source has a fault no event is cut off
+  pub uncut : least_fault ss rs ≡ None → strict_report ss plan.frames u ≡ front ++ all_events ss rs
+  uncut e = by fault refl p.ends where
+    by : (o : Option (Place × Reason)) → fault ≡ o → EndsBy o p.end p.rest →
+        strict_report ss plan.frames u ≡ front ++ all_events ss rs
+    by None f k =
+        ap (λ z. cut z (front ++ all_events ss rs))
+        (ap (λ z. lesser (of_source None z) (least_fault ss rs)) f ∙ ap (lesser (of_source None None)) e)
+    by (Some g) f k =
+        let low : Below g.0.at (front ++ all_events ss rs) =
+        below_append g.0.at front (all_events ss rs)
+        (below_weaker start g.0.at front (let x = start_end in let y = k.2 in omega (arith, x, y)) front_below)
+        (below_weaker p.end g.0.at (all_events ss rs) k.2 all_below) in
+        let full : Full = (g.0, (g.1, None)) in
+        ap (λ z. cut z (front ++ all_events ss rs))
+        (ap (λ z. lesser (of_source None z) (least_fault ss rs)) f ∙ ap (lesser (of_source None (Some g))) e)
+        ∙ cut_below full (front ++ all_events ss rs) low
+
+  -- where no source is mapped a source has as many events as its frames have items of it
+  pub items_mapped : sources_by plan ≡ [] → (x : ℕ) →
+      items_in x (strict_report ss plan.frames u) ≡ items_of x (port_reading plan.frames u).frames
+  items_mapped none x =
+      ap (items_in x) (uncut (ap (λ z. least_fault z rs) none))
+      ∙ ap (λ z. items_in x (front ++ all_events z rs)) none
+      ∙ items_captured plan.frames u lo hi x rise
 
   with_some : (g : Full) → least_fault ss rs ≡ Some g → (o : Option (Place × Reason)) → fault ≡ o →
       EndsBy o p.end p.rest → IsStrictBefore plan u

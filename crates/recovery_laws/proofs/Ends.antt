@@ -3,9 +3,10 @@ use Rattle.std.proofs.Common.{◌≡◌, ℕ, ◌+◌, List, [], ◌∷◌, ◌+
 use Rattle.std.proofs.Common.{length, Option, None, Some, Bool, true, false}
 use Rattle.std.specs.Prelude.{flat_map}
 use Rattle.std.specs.List.{range_with_len, sum_by}
+use Rattle.std.proofs.lemmas.List.{map-append}
 use Rattle.std.proofs.lemmas.List.Sums.{sum_by_push}
 use Rattle.trace_values.specs.declared.limits.TheConstants.{ID_COUNT}
-use Rattle.trace_values.specs.Placed.{Place, Placed}
+use Rattle.trace_values.specs.Placed.{Place, Placed, byte_at}
 use Rattle.trace_values.specs.Stream.{Stream}
 use Rattle.trace_values.specs.declared.reading_modes.FramesMode.{FramesMode}
 use Rattle.trace_values.specs.declared.reading_modes.FramesMode.TheVariants.{Hunt, Aligned, Bare}
@@ -35,8 +36,9 @@ use Rattle.source_events.specs.Tails.{source_tails as strict_tails}
 use Rattle.source_events.proofs.Growth.{no_stop}
 use Rattle.source_events.proofs.Least.{AreSound}
 use Rattle.source_events.proofs.Settling.{all_sound, lesser_none}
-use Rattle.source_merge.proofs.Slots.{sound_back}
-use Rattle.stretch_readings.specs.Stretches.{One, Stretch, Stretches, heard_of, from_fault, stretches}
+use Rattle.recovery_laws.proofs.Distinct.{sound_back}
+use Rattle.stretch_readings.specs.Stretches.{One, Stretch, Stretches, before as first_of, fed, fed_from, heard_of}
+use Rattle.stretch_readings.specs.Stretches.{from_fault, stretches}
 use Rattle.stretch_readings.proofs.StretchLaws as laws
 use Rattle.recovering_machines.specs.Port.{items_by, from_halfword}
 use Rattle.recovering_machines.proofs.Feeding.{same}
@@ -44,8 +46,9 @@ use Rattle.recovery_report.specs.Port.{PortStretch, PortStretches, bare_stretch,
 use Rattle.recovery_report.specs.Port.{of_stretches, recovered, skipped_of, stretch_of}
 use Rattle.recovery_report.specs.Report.{Part, Run, list_of as list_in, lock_of, mode_by, parts_in, port_mode, report}
 use Rattle.recovery_report.specs.Report.{source_tails, tail_by, tail_of}
+use Rattle.recovery_report.proofs.CountLaws.{broken}
 use Rattle.recovery_report.proofs.Sounds.{port_sound, port_begins, port_settles}
-use Rattle.recovery_laws.specs.Strict.{EndsAsStrict}
+use Rattle.recovery_laws.specs.Strict.{EndsAsStrict, HasAsStrict}
 use Rattle.recovery_laws.proofs.Captures.{before, from_start}
 use Rattle.recovery_laws.proofs.Guessed.{no_guess}
 use Rattle.recovery_laws.proofs.Lists.{hunts, one_stretch, reads, reads_are, units}
@@ -237,3 +240,42 @@ module _ (plan : Plan) (sound : is_sound plan ≡ true) (lo hi : ℕ) (u : List 
             (items_as x (report plan u) (sym b.fault ∙ stop) (no_guess plan lo hi u rise)
             ∙ ap (strict_ends.items_in x) (sym b.events));
       }
+
+-- what a port has, also where its bytes end in a fault
+pub has_sound : (mode : FramesMode) (u : List Placed) → (port_reading mode u).fault ≡ None → HasAsStrict mode u
+has_sound mode u e =
+    let p = one_port mode u e in record { frames = p.frames; fulls = p.fulls; halves = p.halves }
+
+push : (h : Bool) (u : List Placed) (b : Placed) → stretches items_by from_halfword h (map One (u ++ b ∷ []))
+    ≡ fed items_by from_halfword (stretches items_by from_halfword h (map One u)) (One b)
+push h u b =
+    ap (λ l. fed_from items_by from_halfword (first_of items_by from_halfword h) l) (map-append One u (b ∷ []))
+    ∙ laws.from_append items_by from_halfword (map One u) (One b ∷ []) (first_of items_by from_halfword h)
+
+has_by : (h : Bool) (u : List Placed) (at byte : ℕ) → (port_stream h u).fault ≡ None →
+    (let r = of_stretches (stretches items_by from_halfword h (map One (u ++ byte_at at byte ∷ []))) in
+    let q = framed (port_stream h (u ++ byte_at at byte ∷ [])) in
+    (frames_of r ≡ q.frames) × (fulls_of r ≡ q.fulls) × (halves_of r ≡ q.halves))
+has_by h u at byte none =
+    let one = laws.strict items_by from_halfword port_sound port_begins port_settles h u ((same h u).0 ∙ none) in
+    let first : Stretches = record { past = []; now = stretch h u } in
+    let v : List Placed = u ++ byte_at at byte ∷ [] in
+    let all : stretches items_by from_halfword h (map One v) ≡ fed items_by from_halfword first (One (byte_at at byte)) =
+    push h u (byte_at at byte) ∙ ap (λ (r : Stretches). fed items_by from_halfword r (One (byte_at at byte))) one in
+    let k = broken first at byte none in
+    let it = stretch_of (stretch h v) in (
+      ap (λ r. frames_of (of_stretches r)) all ∙ k.frames ∙ append-nil (frames_of (alone it))
+          ∙ append-nil (framed (port_stream h v)).frames,
+      ap (λ r. fulls_of (of_stretches r)) all
+          ∙ (let a = k.fulls in let b = sum_alone (λ s. s.reading.fulls) it in omega (arith, a, b)),
+      ap (λ r. halves_of (of_stretches r)) all
+          ∙ (let a = k.halves in let b = sum_alone (λ s. s.reading.halves) it in omega (arith, a, b)),
+    )
+
+pub has_after : (mode : FramesMode) (u : List Placed) (at byte : ℕ) → (port_reading mode u).fault ≡ None →
+    HasAsStrict mode (u ++ byte_at at byte ∷ [])
+has_after Aligned u at byte e =
+    let k = has_by false u at byte e in record { frames = k.0; fulls = k.1; halves = k.2 }
+has_after Hunt u at byte e =
+    let k = has_by true u at byte e in record { frames = k.0; fulls = k.1; halves = k.2 }
+has_after Bare u at byte e = has_sound Bare (u ++ byte_at at byte ∷ []) refl

@@ -1,5 +1,5 @@
 -- The report with guesses is, without them, the report.
-use Rattle.std.proofs.Common.{◌≡◌, ℕ, ◌+◌, List, [], ◌∷◌, ◌++◌, length, refl, sym, ◌∙◌, ap}
+use Rattle.std.proofs.Common.{◌≡◌, ℕ, List, [], ◌∷◌, ◌++◌, length, refl, sym, ◌∙◌, ap}
 use Rattle.std.proofs.Common.{Option, None, Some, Bool, true, false, cond}
 use Rattle.std.specs.Prelude.{filter, not, ◌==◌, ◌||◌}
 use Rattle.std.specs.List.{list_any}

@@ -1,5 +1,5 @@
 -- Before the first fault of a report with guesses there is no guess.
-use Rattle.std.proofs.Common.{◌≡◌, ℕ, List, [], ◌∷◌, ◌++◌, map, refl, sym, ◌∙◌, ap, subst, inl, inr, ◌⊎◌, append_assoc}
+use Rattle.std.proofs.Common.{◌≡◌, ℕ, List, [], ◌∷◌, ◌++◌, map, refl, sym, ◌∙◌, ap, subst, inl, inr, ◌⊎◌}
 use Rattle.std.proofs.Common.{append-nil, arith, Option, None, Some, Bool, true, false, cond}
 use Rattle.std.specs.Prelude.{◌==◌, ◌||◌, ◌+◌, not, is_none, suc, take}
 use Rattle.std.specs.List.{before_first, list_any, prefix_len}
@@ -11,7 +11,6 @@ use Rattle.trace_values.specs.Placed.{Place, Placed}
 use Rattle.trace_values.specs.ReadingModes.{packets_hunt}
 use Rattle.trace_values.specs.Stream.{Said, Notice, Kept, Stream}
 use Rattle.source_events.specs.declared.event.Event.{Event}
-use Rattle.source_events.specs.declared.event.What.{What}
 use Rattle.source_events.specs.declared.packet.Packet.{Packet}
 use Rattle.source_events.specs.declared.plan.Plan.{Plan}
 use Rattle.source_events.specs.declared.plan.SourceKind.{SourceKind}

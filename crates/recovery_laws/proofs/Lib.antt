@@ -1,3 +1,4 @@
+pub mod Distinct
 pub mod Uptos
 pub mod Lists
 pub mod Early

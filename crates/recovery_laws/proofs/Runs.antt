@@ -25,10 +25,10 @@ use Rattle.source_events.proofs.Merges.{merged_append, cut_append, cut_below, be
 use Rattle.source_events.proofs.Placing.{RunsBetween, between_join}
 use Rattle.source_events.proofs.Running.{end_within}
 use Rattle.source_events.proofs.Settling.{all_sound, least_stays, report_stays}
-use Rattle.source_merge.specs.Routing.{AreDistinct, HasNot}
-use Rattle.source_merge.proofs.Slots.{grown_own, grown_raw, grown_none, not_before, not_behind, sound_other}
-use Rattle.source_merge.proofs.Slots.{sound_front, sound_back, lawful_at}
-use Rattle.source_merge.proofs.Standing.{distinct}
+use Rattle.recovery_laws.specs.Distinct.{AreDistinct, HasNot}
+use Rattle.recovery_laws.proofs.Distinct.{grown_own, grown_raw, grown_none, not_before, not_behind, sound_other}
+use Rattle.recovery_laws.proofs.Distinct.{sound_front, sound_back, lawful_at}
+use Rattle.recovery_laws.proofs.Distinct.{distinct}
 use Rattle.stretch_readings.specs.declared.heard.Heard.{Heard}
 use Rattle.stretch_readings.specs.declared.heard.Heard.TheVariants.{Broken}
 use Rattle.stretch_readings.specs.Stretches.{heard, from_fault}

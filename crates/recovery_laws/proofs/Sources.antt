@@ -16,7 +16,7 @@ use Rattle.source_events.specs.Runs.{id_of}
 use Rattle.frame_grammar.specs.Reading.{is_source}
 use Rattle.source_events.proofs.Family.{list_other}
 use Rattle.source_events.proofs.Least.{AreSound}
-use Rattle.source_merge.specs.Routing.{HasNot}
+use Rattle.recovery_laws.specs.Distinct.{HasNot}
 use Rattle.trace_values.specs.Placed.{Placed}
 
 -- a mapped source of this kind

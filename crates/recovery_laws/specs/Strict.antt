@@ -2,6 +2,7 @@
 use Rattle.std.specs.Prelude.{◌≡◌, ℕ, List, [], ◌∷◌, Option, None, Some, Result, Ok, Err}
 use Rattle.trace_values.specs.declared.fault.Reason.{Reason}
 use Rattle.trace_values.specs.Placed.{Place, Placed}
+use Rattle.trace_values.specs.declared.reading_modes.FramesMode.{FramesMode}
 use Rattle.deformatter.specs.PortReading.{port_reading}
 use Rattle.source_events.specs.declared.event.Event.{Event}
 use Rattle.source_events.specs.declared.event.What.{What}
@@ -14,6 +15,7 @@ use Rattle.source_events.specs.Tails as strict_ends
 use Rattle.stretch_readings.specs.declared.heard.Heard.{Heard}
 use Rattle.recovering_machines.specs.Hearing.{as_event, as_strict}
 use Rattle.recovery_report.specs.Counts.{port_counts_of, source_counts_of}
+use Rattle.recovery_report.specs.Port.{frames_of, fulls_of, halves_of, recovered}
 use Rattle.recovery_report.specs.Report.{report, tails_of}
 
 -- an event before others, or the end where it is a fault
@@ -46,3 +48,9 @@ pub record EndsAsStrict (plan : Plan) (u : List Placed) : Type 0 where
   pub tails : tails_of plan u ≡ strict_ends.tails_of plan u
   pub port_counts : port_counts_of plan u ≡ strict_ends.port_counts_of plan u
   pub source_counts : (x : ℕ) → source_counts_of plan u x ≡ strict_ends.source_counts_of plan u x
+
+-- what all stretches of a port have is what its bytes strictly read as, also where they end in a fault
+pub record HasAsStrict (mode : FramesMode) (u : List Placed) : Type 0 where
+  pub frames : frames_of (recovered mode u) ≡ (port_reading mode u).frames
+  pub fulls : fulls_of (recovered mode u) ≡ (port_reading mode u).fulls
+  pub halves : halves_of (recovered mode u) ≡ (port_reading mode u).halves

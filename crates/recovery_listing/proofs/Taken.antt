@@ -1,8 +1,8 @@
 -- What an action over an account made of the front of a piece.
-use Rattle.std.proofs.Common.{◌≡◌, ◌∙◌, ℕ, ◌+◌, [], List, ◌++◌, length, sym, ap, refl, subst, append_assoc}
+use Rattle.std.proofs.Common.{◌≡◌, ◌∙◌, ℕ, ◌+◌, [], ◌∷◌, List, ◌++◌, length, sym, ap, refl, subst, append_assoc}
 use Rattle.std.proofs.Common.{append-nil, arith, Bool, take, drop, ◌-◌, ◌<◌, ◌≤◌}
-use Rattle.std.proofs.lemmas.List.{length-drop, length-take-le}
-use Rattle.source_merge.proofs.Feds.{tail_of, take_parts}
+use Rattle.std.proofs.Math.Seq.{take-add}
+use Rattle.std.proofs.lemmas.List.{length-drop, length-take-le, take_rest}
 use Rattle.trace_values.specs.Placed.{Placed, placed, placed_from}
 use Rattle.trace_values.proofs.Placing.{length-placed_from, placed_append}
 use Rattle.source_events.specs.declared.event.Event.{Event}
@@ -13,11 +13,20 @@ use Rattle.recovery_report.specs.Report.{report_with}
 use Rattle.recovery_engine.specs.Engine as reading
 use Rattle.recovery_engine.specs.Front.{TakesFront}
 use Rattle.recovery_engine.specs.declared.engine.Recovery.{Recovery}
+use Rattle.recovery_engine.proofs.Rising.{end_block}
 use Rattle.trace_stream.specs.Served.{Meaning}
 use Rattle.recovery_listing.specs.Account.{GoesOn, HasRead, Pages, TakesOn, events_of}
 use Rattle.recovery_listing.specs.Recovering.{Stands, how_of}
 use Rattle.recovery_listing.specs.declared.recovering.Recovering.{Recovering}
 use Rattle.recovery_listing.specs.declared.going_on.GoingOn.{GoingOn}
+
+-- the next byte of a capture is at the offset that is how many it has read
+next_is : (engine : Recovery) (seen : List ℕ) → HasRead engine seen → reading.next_of engine ≡ length (placed seen)
+next_is engine [] h = h.next
+next_is engine (byte ∷ bytes) h =
+    let e = h.next ∙ end_block (byte ∷ bytes) [] 0 (omega arith) in
+    let l = length-placed_from 0 (byte ∷ bytes) in
+    let z : reading.next_of engine ≡ length (placed (byte ∷ bytes)) = omega (arith, e, l) in z
 
 -- more bytes of a capture
 pub placed_more : (seen : List ℕ) (at : ℕ) (bytes : List ℕ) → at ≡ length (placed seen) →
@@ -27,17 +36,18 @@ placed_more seen at bytes e =
     ∙ ap (λ (n : ℕ). placed seen ++ placed_from n bytes)
     (let l = length-placed_from 0 seen in let k : length seen ≡ at = omega (arith, l, e) in k)
 
--- What an engine took, and gave what hears its events, an account was given.
+-- What an engine took from its next byte on, and gave what hears its events, an account was given.
 module _ {S T : Type 0} (hears : S → List (Event (Heard Packet)) → S → Type 0) (left : S → ℕ)
-    (gets : T → List (Event (Heard Packet)) → T → Type 0) (piece : List ℕ) (taken : ℕ) (old new : Recovery)
-    (a b : S) (s t : T) (took : TakesFront hears left piece taken (old, a) (new, b))
+    (gets : T → List (Event (Heard Packet)) → T → Type 0) (at : ℕ) (piece : List ℕ) (taken : ℕ) (old new : Recovery)
+    (a b : S) (s t : T) (is : at ≡ reading.next_of old)
+    (took : TakesFront hears left at piece taken (old, a) (new, b))
     (own : (es : List (Event (Heard Packet))) → hears a es b → gets s es t) where
   abbrev front : List ℕ
   front = take taken piece
 
   here : (seen : List ℕ) → HasRead old seen →
-      placed (seen ++ front) ≡ placed seen ++ placed_from (reading.count_of old) front
-  here seen h = placed_more seen (reading.count_of old) front h.count
+      placed (seen ++ front) ≡ placed seen ++ placed_from at front
+  here seen h = placed_more seen at front (is ∙ next_is old seen h)
 
   abbrev reported : List Placed → List (Event (Heard Packet))
   reported u = report_with (reading.guesses_of old) (reading.plan_of old) u
@@ -49,7 +59,8 @@ module _ {S T : Type 0} (hears : S → List (Event (Heard Packet)) → S → Typ
   takes_on = record {
     same = ap (by_plan (reading.guesses_of new)) took.plan
         ∙ ap (λ (guesses : Bool). by_plan guesses (reading.plan_of old)) took.guesses;
-    count = took.count ∙ ap (λ (n : ℕ). reading.count_of old + n) (sym (length-take-le taken piece took.bytes.1));
+    count = took.next ∙ ap (λ (n : ℕ). n + taken) is
+        ∙ ap (λ (n : ℕ). reading.next_of old + n) (sym (length-take-le taken piece took.bytes.1));
     read = λ seen h. subst (λ (u : List Placed). reading.Stands new u) (sym (here seen h)) (took.list (placed seen) h);
     given = (
       took.given.0,
@@ -144,10 +155,10 @@ module _ {A P : Type 0} (asked : A → GoingOn Plan → P) (account : A → Goin
 -- the front of a piece, and what is taken of the rest
 pub front_next : (done n : ℕ) (piece : List ℕ) →
     take done piece ++ take n (take (length piece - done) (drop done piece)) ≡ take (done + n) piece
-front_next done n piece = ap (λ (l : List ℕ). take done piece ++ take n l) (tail_of done piece)
-    ∙ sym (take_parts done n piece)
+front_next done n piece = ap (λ (l : List ℕ). take done piece ++ take n l) (take_rest piece done)
+    ∙ sym (take-add done n piece)
 
 -- how many bytes the rest has
 pub rest_size : (done : ℕ) (piece : List ℕ) → done ≤ length piece →
     length (take (length piece - done) (drop done piece)) ≡ length piece - done
-rest_size done piece l = ap length (tail_of done piece) ∙ length-drop done piece
+rest_size done piece l = ap length (take_rest piece done) ∙ length-drop done piece

@@ -33,7 +33,7 @@ pub record Pages : Type 0 where
 pub record TakesOn {S : Type 0} (gets : S → List (Event (Heard Packet)) → S → Type 0) (front : List ℕ)
     (old new : Recovery × S) : Type 0 where
   pub same : read_by new.0 ≡ read_by old.0
-  pub count : reading.count_of new.0 ≡ reading.count_of old.0 + length front
+  pub count : reading.next_of new.0 ≡ reading.next_of old.0 + length front
   pub read : (seen : List ℕ) → HasRead old.0 seen → HasRead new.0 (seen ++ front)
   pub given : (given : List (Event (Heard Packet))) × gets old.1 given new.1
       × ((seen : List ℕ) → HasRead old.0 seen →

@@ -3,12 +3,12 @@ use Rattle.std.proofs.Common.{List, [], ◌++◌, sym, subst, append_assoc, appe
 use Rattle.source_events.specs.declared.event.Event.{Event}
 use Rattle.source_events.specs.declared.packet.Packet.{Packet}
 use Rattle.stretch_readings.specs.declared.heard.Heard.{Heard}
+use Rattle.recovering_machines.specs.Hearing.{AddsUp}
 use Rattle.recovery_engine.specs.HeardLaws as heard
 use Rattle.capture_actions.specs.KindCounts.{HasCounted}
 use Rattle.recovery_listing.specs.HeardKinds.{gets}
 use Rattle.recovery_listing.specs.Listing.{seen_in}
 use Rattle.recovery_listing.specs.declared.heard_kinds.HeardKinds.{HeardKinds}
-use Rattle.source_merge.specs.Giving.{AddsUp}
 
 gets_none : (s : HeardKinds × Unit {0}) → gets s [] s
 gets_none s = record {

@@ -1,14 +1,19 @@
 -- What the lister of a recovering report is given adds up: proofs that its `impl` cites.
-use Rattle.std.proofs.Common.{◌∙◌, ℕ, ◌++◌, [], List, sym, ap, subst, append_assoc, append-nil, refl}
+use Rattle.std.proofs.Common.{◌≡◌, ◌∙◌, ℕ, ◌++◌, [], List, sym, ap, subst, append_assoc, append-nil, refl}
+use Rattle.std.proofs.Common.{Bool, true, false, Option, None, Some}
 use Rattle.source_events.specs.declared.event.Event.{Event}
 use Rattle.source_events.specs.declared.packet.Packet.{Packet}
+use Rattle.source_events.specs.declared.plan.SourceKind.{SourceKind}
+use Rattle.source_events.specs.declared.plan.SourceKind.TheVariants.{Itm, Stp}
 use Rattle.stretch_readings.specs.declared.heard.Heard.{Heard}
+use Rattle.recovering_machines.specs.Hearing.{AddsUp}
 use Rattle.capture_actions.specs.declared.list_plan.ListPlan.{ListPlan}
+use Rattle.capture_actions.specs.Faulty.{is_stp}
+use Rattle.capture_actions.specs.Filter.{ChoiceWindow, bounds_in}
 use Rattle.recovery_listing.specs.LineLaws.{near_append}
-use Rattle.recovery_listing.specs.Lister.{Stands, gets, plan_of}
+use Rattle.recovery_listing.specs.Lister.{Lists, Stands, gets, plan_of}
 use Rattle.recovery_listing.specs.Near.{near_lines_after}
 use Rattle.recovery_listing.specs.declared.lister.RecoveringLister.{RecoveringLister}
-use Rattle.source_merge.specs.Giving.{AddsUp}
 
 gets_none : (s : RecoveringLister × List ℕ) → gets s [] s
 gets_none s = record {
@@ -36,3 +41,21 @@ gets_more a b c es fs g h =
 
 pub adds_up : AddsUp gets
 adds_up = record { none = gets_none; more = gets_more }
+
+no_window : (w : Option ChoiceWindow) → bounds_in w ≡ None → w ≡ None
+no_window None e = refl
+no_window (Some w) e = cc
+
+lists_same : (a b : RecoveringLister × List ℕ) (es : List (Event (Heard Packet))) (source : ℕ) (stp : Bool) →
+    gets a es b → (a.0.lister.filter.window ≡ None) × (is_stp a.0.lister.plan (Some source) ≡ stp) →
+    (b.0.lister.filter.window ≡ None) × (is_stp b.0.lister.plan (Some source) ≡ stp)
+lists_same a b es source stp g t = (
+  no_window b.0.lister.filter.window (ap (λ (p : ListPlan). p.window) g.same ∙ ap bounds_in t.0),
+  ap (λ (p : ListPlan). is_stp p.plan (Some source)) g.same ∙ t.1,
+)
+
+-- what is listed from its parts is so after any events
+pub lists_on : (a b : RecoveringLister × List ℕ) (es : List (Event (Heard Packet))) (source : ℕ) (kind : SourceKind) →
+    gets a es b → Lists a.0 source kind → Lists b.0 source kind
+lists_on a b es source Itm g t = lists_same a b es source false g t
+lists_on a b es source Stp g t = lists_same a b es source true g t

@@ -7,10 +7,10 @@ use Rattle.source_events.specs.declared.event.Event.{Event}
 use Rattle.source_events.specs.declared.event.What.{What}
 use Rattle.source_events.specs.declared.event.What.TheVariants.{Locked, Packet as Said, Raw, Trigger}
 use Rattle.source_events.specs.declared.packet.Packet.{Packet}
+use Rattle.source_events.specs.declared.plan.SourceKind.{SourceKind}
 use Rattle.stretch_readings.specs.declared.heard.Heard.{Heard}
 use Rattle.stretch_readings.specs.declared.heard.Heard.TheVariants.{Read, Broken, Guessed, Misread}
-use Rattle.recovering_machines.specs.Hearing.{as_strict}
-use Rattle.source_merge.specs.Giving.{AddsUp}
+use Rattle.recovering_machines.specs.Hearing.{AddsUp, as_strict}
 use Rattle.recovery_report.specs.Report.{sure_events}
 use Rattle.recovery_listing.specs.FaultLines.{fault_lines}
 use Rattle.recovery_listing.specs.Listing.{has_fault}
@@ -65,3 +65,12 @@ module _ {R : Type 0} (own : (R × List ℕ) → List (Event Packet) → (R × L
 
   pub adds_up : AddsUp own → AddsUp (NotingGets own)
   adds_up laws = record { none = gets_none laws.none; more = gets_more laws.more }
+
+  -- what the receiver may be given as what it says, it may be given so after any events
+  pub takes_on : (takes : R → ℕ → SourceKind → Type 0) →
+      ((a b : R × List ℕ) (es : List (Event Packet)) (source : ℕ) (kind : SourceKind) → own a es b →
+      takes a.0 source kind → takes b.0 source kind) →
+      (a b : Noting R × List ℕ) (es : List (Event (Heard Packet))) (source : ℕ) (kind : SourceKind) →
+      NotingGets own a es b → takes a.0.receiver source kind → takes b.0.receiver source kind
+  takes_on takes on a b es source kind g t =
+      on (a.0.receiver, a.1) (b.0.receiver, b.1) (with_losses a.0.source es) source kind g.receiver t

@@ -12,7 +12,7 @@ how_of s = read_by s.engine
 
 -- how many bytes it took
 abbrev pub taken_by : {A : Type 0} → Recovering A → ℕ
-taken_by s = reading.count_of s.engine
+taken_by s = reading.next_of s.engine
 
 -- its engine has read these bytes, and its account was given their events
 pub record Stands {A : Type 0} (account : A → GoingOn Plan → List ℕ → Type 0) (s : Recovering A) (seen : List ℕ)

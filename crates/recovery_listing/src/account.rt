@@ -9,7 +9,7 @@ ghost use Rattle.trace_io.specs.Bytes.{TakesSome};
 ghost use Rattle.trace_stream.specs.Debt.{Debt, Paid, Pours, with_debt};
 ghost use Rattle.trace_stream.specs.Served.{IsLawful, Meaning};
 ghost use Rattle.trace_stream.specs.declared.limits.TheConstants.{GREATEST_CAPTURE};
-ghost use Rattle.recovery_engine.specs.Engine.{count_of};
+ghost use Rattle.recovery_engine.specs.Engine.{next_of};
 ghost use Rattle.recovery_listing.specs.Account.{GoesOn, HasRead, Pages, TakesOn, events_of, read_by};
 ghost use Rattle.recovery_listing.specs.Listing.{is_faulty};
 ghost use Rattle.recovery_listing.specs.declared.going_on.GoingOn.{GoingOn};
@@ -56,12 +56,12 @@ pub trait Account {
         outlet: &mut Outlet,
         notes: &mut Outlet,
     ) -> usize
-        requires live { live self.old (count_of engine.old) }
+        requires live { live self.old (next_of engine.old) }
         requires idle { (debt self.old ≡ Paid) × (notes.old ≡ []) }
-        requires piece { (0 < length piece.now) × (count_of engine.old + length piece.now ≤ GREATEST_CAPTURE) }
+        requires piece { (0 < length piece.now) × (next_of engine.old + length piece.now ≤ GREATEST_CAPTURE) }
         requires room { length outlet.old + ACTION_ROOM ≤ OUTLET_ROOM }
         ensures front { TakesSome piece.now result }
-        ensures live { live self.new (count_of engine.new) }
+        ensures live { live self.new (next_of engine.new) }
         ensures paid { debt self.new ≡ Paid }
         ensures on { TakesOn gets (take result piece.now)
             (engine.old, (self.old, record { text = outlet.old; notes = notes.old }))

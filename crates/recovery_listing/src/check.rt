@@ -109,11 +109,12 @@ impl Account for Tally {
         _outlet: &mut Outlet,
         _notes: &mut Outlet,
     ) -> usize {
-        if let Some(bytes) = engine.count_frame(piece) {
+        let at = engine.next();
+        if let Some(bytes) = engine.count_frame(at, piece) {
             self.bytes += bytes as u64;
             return bytes;
         }
-        let taken = engine.take(piece, &mut self.heard, &mut ());
+        let taken = engine.take(at, piece, &mut self.heard, &mut ());
         self.bytes += taken as u64;
         taken
     }

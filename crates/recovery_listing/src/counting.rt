@@ -13,7 +13,6 @@ ghost use Rattle.recovery_listing.specs.Counting.{HasTallied, plan_of};
 use capture_actions::{SOURCE_ROOM, put_source_line};
 use recovery_engine::{HeardCounts, Recovery};
 use source_counts::Counts;
-use source_events::GREATEST_COUNT;
 use trace_stream::{OUTLET_ROOM, Outlet, TEXT_ROOM};
 use trace_text::{FaultCountLine, PortCountsLines};
 use trace_values::{ID_COUNT, SourceId};
@@ -31,16 +30,12 @@ fn counts_of(engine: &Recovery, heard: &HeardCounts, id: SourceId) -> Counts
 {
     let _bytes = engine.next();
     let sent = engine.counts(id);
-    let bytes = sent.bytes.min(GREATEST_COUNT);
     match engine.kind_of(id) {
         Some(_) => Counts {
-            bytes,
+            bytes: sent.bytes,
             items: heard.packets(id),
         },
-        None => Counts {
-            bytes,
-            items: sent.items.min(GREATEST_COUNT),
-        },
+        None => sent,
     }
 }
 

@@ -11,13 +11,13 @@ ghost use Rattle.recovering_machines.specs.Hearing.{HeardFits, as_strict};
 ghost use Rattle.recovery_listing.specs.HeardKinds.{word_by};
 ghost use Rattle.recovery_listing.specs.Listing.{seen_in};
 
-use crate::told::give_told;
 use capture_actions::{ItemWord, KindCounts};
+use itm_grammar::packet::ItmPacket;
 use recovering_machines::Hearer;
 use recovery_engine::HeardCounts;
 use source_events::{Event, Packet, SourceKind, What};
-use source_machine::Told;
 use source_merge::Receiver;
+use stp_grammar::said::Said;
 use stretch_readings::Heard;
 use trace_values::SourceId;
 
@@ -108,6 +108,8 @@ impl Hearer for HeardKinds {
 
     ghost adds_up = { adds_up };
 
+    ghost takes_on = { λ a b es source kind g t. t };
+
     fn hear(&mut self, to: &mut (), event: Event<Heard<Packet>>) {
         add_event(&mut self.kinds, &event);
         self.heard.hear(to, event);
@@ -124,9 +126,15 @@ impl Hearer for HeardKinds {
     }
 
     #[inline(always)]
-    fn hear_told(&mut self, to: &mut (), at: u64, half: u8, source: SourceId, told: Told) {
-        give_told(&mut self.kinds, to, at, half, source, told);
-        self.heard.hear_told(to, at, half, source, told);
+    fn hear_itm(&mut self, to: &mut (), at: u64, half: u8, source: SourceId, packet: ItmPacket) {
+        self.kinds.give_itm(to, at, half, source, packet);
+        self.heard.hear_itm(to, at, half, source, packet);
+    }
+
+    #[inline(always)]
+    fn hear_said(&mut self, to: &mut (), at: u64, half: u8, source: SourceId, said: Said) {
+        self.kinds.give_said(to, at, half, source, said);
+        self.heard.hear_said(to, at, half, source, said);
     }
 
     #[inline(always)]

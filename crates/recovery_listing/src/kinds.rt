@@ -122,7 +122,8 @@ impl Account for KindTally {
         _outlet: &mut Outlet,
         _notes: &mut Outlet,
     ) -> usize {
-        let taken = engine.take(piece, &mut self.counts, &mut ());
+        let at = engine.next();
+        let taken = engine.take(at, piece, &mut self.counts, &mut ());
         self.bytes += taken as u64;
         taken
     }

@@ -15,7 +15,6 @@ mod noting;
 mod recovering;
 mod show;
 mod text;
-mod told;
 mod vcd;
 
 pub use account::Account;

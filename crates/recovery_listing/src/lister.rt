@@ -1,30 +1,23 @@
 //! What puts the lines of a recovering report into an outlet, as its events come.
 
 ghost use Rattle.std.specs.Prelude.{◌≡◌, ◌+◌, ◌<◌, ◌≤◌, ◌++◌, ◌∷◌, [], List, Ok, Some, false, true, not};
-ghost use Rattle.itm_grammar.specs.declared.packet.ItmPacket.{ItmPacket};
-ghost use Rattle.stp_grammar.specs.declared.said.Said.{Said as StpSaid};
 ghost use Rattle.source_events.specs.declared.event.Event.{Event};
 ghost use Rattle.source_events.specs.declared.event.What.{What};
-ghost use Rattle.source_events.specs.declared.event.What.TheVariants.{Packet as Said};
 ghost use Rattle.source_events.specs.declared.packet.Packet.{Packet};
-ghost use Rattle.source_events.specs.declared.packet.Packet.TheVariants.{Itm};
 ghost use Rattle.source_events.specs.Fitting.{EventFits, PacketFits};
 ghost use Rattle.source_events.specs.Report.{is_item};
-ghost use Rattle.source_machine.specs.Finding.{ToldFits};
-ghost use Rattle.source_machine.specs.declared.packets.Told.TheVariants.{Itm as SaysItm, Stp as SaysStp};
 ghost use Rattle.stretch_readings.specs.declared.heard.Heard.{Heard};
 ghost use Rattle.recovering_machines.specs.Hearing.{as_event, as_strict, is_guess};
-ghost use Rattle.capture_actions.specs.Listing.{itm_packet};
 ghost use Rattle.capture_actions.specs.SourceClocks.{AllStand};
 ghost use Rattle.recovery_listing.specs.Near.{guess_clocked_by};
 
-use crate::told::give_told;
 use capture_actions::{Lister, SourceClocks};
 use item_tap::{Bounds, Choices};
+use itm_grammar::packet::ItmPacket;
 use recovering_machines::Hearer;
 use source_events::{Event, Packet, Plan, SourceKind, Stop, What};
-use source_machine::Told;
 use source_merge::Receiver;
+use stp_grammar::said::Said;
 use stretch_readings::Heard;
 use trace_stream::Outlet;
 use trace_values::{Fault, Reason, SourceId};
@@ -82,25 +75,6 @@ fn take_sure(clocks: &mut SourceClocks, event: &Event<Packet>)
     }
 }
 
-/// They take what a packet of this source says.
-#[inline(always)]
-fn take_told(clocks: &mut SourceClocks, source: SourceId, told: &Told)
-    requires fits { ToldFits told.now }
-    ensures itm { (packet : ItmPacket) (es : List (Event Packet)) (event : Event Packet) →
-        told.now ≡ SaysItm packet → event.source ≡ Some source → event.what ≡ Said (Itm packet) →
-        AllStand clocks.old es → AllStand clocks.new (es ++ event ∷ []) }
-    ensures stp { (said : StpSaid) (es : List (Event Packet)) (event : Event Packet) →
-        told.now ≡ SaysStp said → itm_packet event.what ≡ [] →
-        AllStand clocks.old es → AllStand clocks.new (es ++ event ∷ []) }
-{
-    match told {
-        Told::Itm(packet) => {
-            let _ = clocks.packet_remark(source, packet);
-        }
-        Told::Stp(_) => clocks.pass(),
-    }
-}
-
 impl RecoveringLister {
     ghost use Rattle.item_tap.specs.declared.bounds.Bounds.{Bounds};
     ghost use Rattle.item_tap.specs.declared.choice.Choice.{Choice};
@@ -133,7 +107,7 @@ impl RecoveringLister {
 /// and the window does not see a guess.
 impl Hearer for RecoveringLister {
     ghost use Rattle.recovery_listing.specs.Lister.{Lists, gets, room};
-    ghost use Rattle.recovery_listing.specs.ListerLaws.{adds_up};
+    ghost use Rattle.recovery_listing.specs.ListerLaws.{adds_up, lists_on};
 
     type To = Outlet;
 
@@ -144,6 +118,8 @@ impl Hearer for RecoveringLister {
     ghost takes = { Lists };
 
     ghost adds_up = { adds_up };
+
+    ghost takes_on = { lists_on };
 
     fn hear(&mut self, outlet: &mut Outlet, event: Event<Heard<Packet>>) {
         let (at, half, source) = (event.at, event.half, event.source);
@@ -188,9 +164,22 @@ impl Hearer for RecoveringLister {
     }
 
     #[inline(always)]
-    fn hear_told(&mut self, outlet: &mut Outlet, at: u64, half: u8, source: SourceId, told: Told) {
-        take_told(&mut self.guess_clocks, source, &told);
-        give_told(&mut self.lister, outlet, at, half, source, told);
+    fn hear_itm(
+        &mut self,
+        outlet: &mut Outlet,
+        at: u64,
+        half: u8,
+        source: SourceId,
+        packet: ItmPacket,
+    ) {
+        let _ = self.guess_clocks.packet_remark(source, &packet);
+        self.lister.give_itm(outlet, at, half, source, packet);
+    }
+
+    #[inline(always)]
+    fn hear_said(&mut self, outlet: &mut Outlet, at: u64, half: u8, source: SourceId, said: Said) {
+        self.guess_clocks.pass();
+        self.lister.give_said(outlet, at, half, source, said);
     }
 
     #[inline(always)]

@@ -3,19 +3,18 @@
 ghost use Rattle.std.specs.Prelude.{◌≡◌, ◌<◌, ◌+◌, ◌≤◌, [], length, take};
 ghost use Rattle.trace_io.specs.Bytes.{TakesSome};
 ghost use Rattle.trace_stream.specs.declared.limits.TheConstants.{GREATEST_CAPTURE};
-ghost use Rattle.recovery_engine.specs.Engine.{count_of};
+ghost use Rattle.recovery_engine.specs.Engine.{next_of};
 ghost use Rattle.capture_actions.specs.PortText.{source_of};
 ghost use Rattle.recovery_listing.specs.Account.{TakesOn};
 ghost use Rattle.recovery_listing.specs.Noting.{NotesGets, is_misread, loser_of};
 
 use crate::lister::strictly;
-use crate::told::give_told;
 use itm_grammar::packet::ItmPacket;
 use recovering_machines::Hearer;
 use recovery_engine::Recovery;
 use source_events::{Event, Packet, Plan, SourceKind, Stop, What};
-use source_machine::Told;
 use source_merge::Receiver;
+use stp_grammar::said::Said;
 use stretch_readings::Heard;
 use trace_stream::{OUTLET_ROOM, Outlet, TEXT_ROOM};
 use trace_text::print_fault;
@@ -103,14 +102,15 @@ impl<R: Receiver<To = Outlet>> Noting<R> {
         requires some { 0 < length piece.now }
         requires room { 30 ≤ R.room (self.old.receiver, outlet.old) }
         requires silent { notes.old ≡ [] }
-        requires count { count_of engine.old + length piece.now ≤ GREATEST_CAPTURE }
+        requires count { next_of engine.old + length piece.now ≤ GREATEST_CAPTURE }
         ensures front { TakesSome piece.now result }
         ensures live { self.new.lines ≡ [] }
         ensures on { TakesOn (NotesGets R.gets) (take result piece.now)
             (engine.old, (self.old, record { text = outlet.old; notes = notes.old }))
             (engine.new, (self.new, record { text = outlet.new; notes = notes.new })) }
     {
-        let bytes = engine.take(piece, self, outlet);
+        let at = engine.next();
+        let bytes = engine.take(at, piece, self, outlet);
         std::mem::swap(&mut self.lines, notes);
         bytes
     }
@@ -119,7 +119,7 @@ impl<R: Receiver<To = Outlet>> Noting<R> {
 /// Each event goes to the receiver, and at a fault the loss in its place.
 impl<R: Receiver<To = Outlet>> Hearer for Noting<R> {
     ghost use Rattle.recovery_listing.specs.Noting.{NotingGets, room};
-    ghost use Rattle.recovery_listing.specs.NotingLaws.{adds_up};
+    ghost use Rattle.recovery_listing.specs.NotingLaws.{adds_up, takes_on};
 
     type To = Outlet;
 
@@ -130,6 +130,8 @@ impl<R: Receiver<To = Outlet>> Hearer for Noting<R> {
     ghost takes = { λ noting source kind. R.takes noting.receiver source kind };
 
     ghost adds_up = { adds_up R.gets R.adds_up };
+
+    ghost takes_on = { takes_on R.gets R.takes R.takes_on };
 
     fn hear(&mut self, outlet: &mut Outlet, event: Event<Heard<Packet>>) {
         let (at, half, source) = (event.at, event.half, event.source);
@@ -166,8 +168,20 @@ impl<R: Receiver<To = Outlet>> Hearer for Noting<R> {
     }
 
     #[inline(always)]
-    fn hear_told(&mut self, outlet: &mut Outlet, at: u64, half: u8, source: SourceId, told: Told) {
-        give_told(&mut self.receiver, outlet, at, half, source, told);
+    fn hear_itm(
+        &mut self,
+        outlet: &mut Outlet,
+        at: u64,
+        half: u8,
+        source: SourceId,
+        packet: ItmPacket,
+    ) {
+        self.receiver.give_itm(outlet, at, half, source, packet);
+    }
+
+    #[inline(always)]
+    fn hear_said(&mut self, outlet: &mut Outlet, at: u64, half: u8, source: SourceId, said: Said) {
+        self.receiver.give_said(outlet, at, half, source, said);
     }
 
     #[inline(always)]

@@ -34,16 +34,16 @@ impl<A: Account> Recovering<A> {
 }
 
 impl<A: Account> Action for Recovering<A> {
-    ghost use Rattle.recovery_engine.specs.Engine.{count_of};
+    ghost use Rattle.recovery_engine.specs.Engine.{next_of};
     ghost use Rattle.recovery_listing.specs.Recovering.{Stands, how_of};
 
     type Plan = A::Asked;
 
     ghost plan = { λ s. A.asked s.account (how_of s) };
 
-    ghost live = { λ s. A.live s.account (count_of s.engine) };
+    ghost live = { λ s. A.live s.account (next_of s.engine) };
 
-    ghost taken = { λ s. count_of s.engine };
+    ghost taken = { λ s. next_of s.engine };
 
     ghost stands = { λ s. Stands A.stands s };
 

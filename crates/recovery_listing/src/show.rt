@@ -75,7 +75,8 @@ impl Account for RecoveringLister {
         outlet: &mut Outlet,
         _notes: &mut Outlet,
     ) -> usize {
-        engine.take(piece, self, outlet)
+        let at = engine.next();
+        engine.take(at, piece, self, outlet)
     }
 
     #[inline]

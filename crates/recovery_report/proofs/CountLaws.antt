@@ -17,12 +17,13 @@ use Rattle.deformatter.specs.PortReading.{PortReading, framed}
 use Rattle.deformatter.specs.ReadingGrowth.{Grows, frames_by}
 use Rattle.deformatter.specs.Resume.{taken_again}
 use Rattle.deformatter.specs.declared.step.PortStep.{PortStep}
+use Rattle.deformatter.specs.declared.step.PortStep.TheVariants.{Quiet}
 use Rattle.deformatter.proofs.BeforeFaults.{seeked}
 use Rattle.deformatter.proofs.ReaderFeeding.{framed_grows}
 use Rattle.stretch_readings.specs.Stretches.{Stretch, Stretches, One, fed, renewed, resumed_by}
 use Rattle.recovering_machines.specs.Port.{items_by, from_halfword}
 use Rattle.recovering_machines.proofs.Feeding.{same}
-use Rattle.recovery_report.specs.Port.{PortStretch, PortStretches, of_stretches, stretch_of}
+use Rattle.recovery_report.specs.Port.{PortStretch, PortStretches, frames_of, of_stretches, stretch_of}
 use Rattle.recovery_report.specs.Counts.{CountsGrow}
 
 -- the frames of stretches with one more
@@ -118,3 +119,38 @@ module _ (r : Stretches) (at byte : ℕ) (step : PortStep) (cells : List Cell)
       subst (λ (o : Option (Place × Reason)). CountsGrow (of_stretches r)
       (of_stretches (resumed_by items_by from_halfword o longer)) step cells)
       (sym (same r.now.hunts units).0) (by (port_stream r.now.hunts units).fault refl)
+
+-- A byte with which a stretch has a fault: what is counted is what the stretch has with it.
+module _ (r : Stretches) (at byte : ℕ) (none : (port_stream r.now.hunts r.now.units).fault ≡ None) where
+  abbrev with_it : Stretches
+  with_it = record {
+    past = r.past;
+    now = record { hunts = r.now.hunts; count = r.now.count; units = r.now.units ++ byte_at at byte ∷ [] };
+  }
+
+  unchanged : CountsGrow (of_stretches with_it) (of_stretches with_it) Quiet []
+  unchanged = record {
+    frames = sym (append-nil (frames_of (of_stretches with_it)));
+    fulls = omega arith;
+    halves = omega arith;
+  }
+
+  broken_by : (o : Option (Place × Reason)) → (port_stream r.now.hunts with_it.now.units).fault ≡ o →
+      CountsGrow (of_stretches with_it) (of_stretches (resumed_by items_by from_halfword o with_it)) Quiet []
+  broken_by None f = unchanged
+  broken_by (Some x) f =
+      let n : Stretch = renewed items_by from_halfword with_it.now in
+      let nothing : IsEmpty (stretch_of n).reading =
+      unlocked (taken_again r.now.hunts with_it.now.units)
+      (seeked r.now.hunts r.now.units (byte_at at byte) none (ap is_none f)).none in
+      subst (λ (p : List PortStretch). CountsGrow (of_stretches with_it) (record { past = p; now = stretch_of n }) Quiet [])
+      (sym (map-append stretch_of r.past (with_it.now ∷ [])))
+      (empty_after (map stretch_of r.past) (stretch_of with_it.now) (stretch_of n) nothing (of_stretches with_it) Quiet []
+      unchanged)
+
+  pub broken : CountsGrow (of_stretches with_it)
+      (of_stretches (fed items_by from_halfword r (One (byte_at at byte)))) Quiet []
+  broken =
+      subst (λ (o : Option (Place × Reason)). CountsGrow (of_stretches with_it)
+      (of_stretches (resumed_by items_by from_halfword o with_it)) Quiet [])
+      (sym (same r.now.hunts with_it.now.units).0) (broken_by (port_stream r.now.hunts with_it.now.units).fault refl)

@@ -1,6 +1,6 @@
 -- What a source says with its guesses grows with each of its bytes, and nothing is taken back. (With half a byte of an
 -- STP source a guess may be taken back: where the other half locks the hunt.)
-use Rattle.std.proofs.Common.{◌≡◌, ℕ, zero, suc, ◌+◌, ◌-◌, ◌<◌, ◌≤◌, List, [], ◌∷◌, ◌++◌, length, drop, map, refl, sym}
+use Rattle.std.proofs.Common.{◌≡◌, ℕ, ◌+◌, ◌-◌, ◌<◌, ◌≤◌, List, [], ◌∷◌, ◌++◌, length, drop, map, refl, sym}
 use Rattle.std.proofs.Common.{◌∙◌, ap, subst, arith, inl, inr, ◌⊎◌, append_assoc, append-nil, Option, None, Some, Bool}
 use Rattle.std.proofs.Common.{true, false, cond}
 use Rattle.std.specs.Prelude.{is_none, filter, flat_map, nat_lt}

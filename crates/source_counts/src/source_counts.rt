@@ -180,6 +180,7 @@ impl SourceCounts {
     pub fn of(&self, id: SourceId) -> Counts
         ensures bytes { (frames : List (List Cell)) → HasBytes self.now frames → result.bytes ≡ bytes_of id frames }
         ensures items { (frames : List (List Cell)) → HasItems self.now frames → result.items ≡ items_of id frames }
+        ensures few { (result.bytes ≤ total_of self.now) × (result.items ≤ total_of self.now) }
     {
         let index = usize::from(id.number());
         Counts {

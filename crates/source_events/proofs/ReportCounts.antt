@@ -73,14 +73,19 @@ raw_items x (run ∷ runs) = items_append (cond (is_source x (id_of run)) (raw_e
   by true = run_items x run
   by false = tt
 
+-- where no source is mapped, whatever the port's fault
+pub items_captured : (mode : FramesMode) (u : List Placed) (lo hi x : ℕ) → BytesRise lo hi u →
+    items_in x (capture_events [] mode u) ≡ items_of x (port_reading mode u).frames
+items_captured mode u lo hi x rise =
+    let merged = (capture_merged Packet [] tt mode u lo hi rise (capture_events [] mode u)).1 refl in
+    let runs = runs_in (port_reading mode u) in
+    counted_in_part x (capture_events [] mode u)
+    ∙ ap (λ (l : List (Event Packet)). count_by (λ (f : Event Packet). is_item f.what) l) (merged.of_source x)
+    ∙ all_counted (Some x) (raws x runs) (raw_items x runs)
+    ∙ frames_given Packet x (port_reading mode u).frames (frames_have_runs mode u)
+
 pub items_counted : (mode : FramesMode) (u : List Placed) (lo hi x : ℕ) → BytesRise lo hi u →
     stop_in {V = Packet} [] (port_reading mode u) ≡ None →
     items_in x (report [] mode u) ≡ items_of x (port_reading mode u).frames
 items_counted mode u lo hi x rise e =
-    let merged = (capture_merged Packet [] tt mode u lo hi rise (capture_events [] mode u)).1 refl in
-    let runs = runs_in (port_reading mode u) in
-    ap (λ (o : Option Full). items_in x (cut o (capture_events [] mode u))) e
-    ∙ counted_in_part x (capture_events [] mode u)
-    ∙ ap (λ (l : List (Event Packet)). count_by (λ (f : Event Packet). is_item f.what) l) (merged.of_source x)
-    ∙ all_counted (Some x) (raws x runs) (raw_items x runs)
-    ∙ frames_given Packet x (port_reading mode u).frames (frames_have_runs mode u)
+    ap (λ (o : Option Full). items_in x (cut o (capture_events [] mode u))) e ∙ items_captured mode u lo hi x rise

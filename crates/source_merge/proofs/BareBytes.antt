@@ -12,9 +12,10 @@ use Rattle.source_events.proofs.Least.{AreSound, least_at}
 use Rattle.source_events.proofs.Merges.{test_same, test_other}
 use Rattle.source_events.proofs.Placing.{runs_between}
 use Rattle.source_merge.specs.Feeding.{place_and_reason}
-use Rattle.source_merge.specs.Routing.{HasNot, RunsBetween, Stops}
+use Rattle.source_merge.specs.Routing.{RunsBetween, Stops}
+use Rattle.recovery_laws.specs.Distinct.{HasNot}
 use Rattle.source_merge.proofs.Framing.{fed_all, fed_stopped}
-use Rattle.source_merge.proofs.Slots.{grown_own, sound_other, sound_front, sound_back, lawful_at}
+use Rattle.recovery_laws.proofs.Distinct.{grown_own, sound_other, sound_front, sound_back, lawful_at}
 use Rattle.source_merge.proofs.ByParts.{StepTakenBy, TookBy}
 use Rattle.source_merge.proofs.Filling.{Filled}
 use Rattle.source_merge.proofs.Steps.{taken_frame, IsAfter, after}

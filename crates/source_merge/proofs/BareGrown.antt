@@ -9,13 +9,13 @@ use Rattle.source_events.proofs.Least.{AreSound}
 use Rattle.source_events.proofs.Merges.{told_append}
 use Rattle.std.specs.Option.{option_map}
 use Rattle.source_merge.specs.Feeding.{place_and_reason}
-use Rattle.source_merge.specs.Routing.{HasNot}
+use Rattle.recovery_laws.specs.Distinct.{HasNot}
 use Rattle.source_merge.proofs.Going.{rise_block}
 use Rattle.source_merge.proofs.BareBytes.{lists_push, bare_more, bare_fault, sound_after}
 use Rattle.source_merge.proofs.BareLists.{list_from}
 use Rattle.source_merge.proofs.PieceStops.{sound_front}
 use Rattle.source_merge.proofs.RunSteps.{lifted_append}
-use Rattle.source_merge.proofs.Slots.{lawful_at}
+use Rattle.recovery_laws.proofs.Distinct.{lawful_at}
 use Rattle.source_merge.proofs.Steps.{rise_push}
 
 module _ {V : Type 0} (a : List (Mapped V)) (one : Mapped V) (b : List (Mapped V)) (own : one.id ≡ 1)

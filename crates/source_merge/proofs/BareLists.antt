@@ -5,7 +5,8 @@ use Rattle.source_merge.specs.Names.{Stands}
 use Rattle.deformatter.specs.declared.reader.PortReader.{PortReader}
 use Rattle.deformatter.specs.Reader.{Stands as PortStands, StandsByMode, mode_of}
 use Rattle.source_merge.specs.declared.slot.Slot.{Slot}
-use Rattle.source_merge.specs.Routing.{mapped_of, AllStand, HasNot}
+use Rattle.source_merge.specs.Routing.{mapped_of, AllStand}
+use Rattle.recovery_laws.specs.Distinct.{HasNot}
 use Rattle.source_merge.proofs.BareBytes.{lists_other, lists_push}
 
 -- source 1 has them all

@@ -8,7 +8,7 @@ use Rattle.trace_values.specs.declared.step.Step.TheVariants.{Fault as Faulty}
 use Rattle.source_merge.specs.Feeding.{step_fault}
 use Rattle.source_events.proofs.Merges.{at_most_self}
 use Rattle.source_events.proofs.Family.{Within, run_more}
-use Rattle.source_merge.proofs.RunSteps.{placed_more}
+use Rattle.recovering_machines.proofs.RunParts.{placed_more}
 
 within_first : (done : List Cell) (c : Cell) (rest : List Cell) (n : ℕ) → RisesFrom n (done ++ (c ∷ rest)) → n ≤ c.at
 within_first [] c rest n r = r.0

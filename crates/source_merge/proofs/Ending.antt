@@ -15,7 +15,8 @@ use Rattle.source_merge.specs.Names.{Cell, Placed, Stream, Stands, reading_of, P
 use Rattle.source_merge.specs.Names.{kind_of, PortReading, SourceTail, Mapped, source_tails, tail_by, list_of}
 use Rattle.source_events.proofs.Merges.{test_same, test_other}
 use Rattle.source_merge.specs.declared.slot.Slot.{Slot}
-use Rattle.source_merge.specs.Routing.{mapped_of, AllStand, HasNot}
+use Rattle.source_merge.specs.Routing.{mapped_of, AllStand}
+use Rattle.recovery_laws.specs.Distinct.{HasNot}
 
 -- what the bytes of the first source of this ID read as
 abbrev pub reading_at : {V : Type 0} → ℕ → List (Mapped V) → Option (List Placed → Stream V)

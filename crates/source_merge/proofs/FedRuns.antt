@@ -1,33 +1,19 @@
 -- A run that is fed in parts: what stands after each of them, whatever reads them.
-use Rattle.std.proofs.Common.{◌≡◌, ℕ, zero, suc, ◌+◌, ◌-◌, ◌*◌, ◌<◌, ◌≤◌, ◌++◌, List, [], ◌∷◌, length, take, drop, get_or, refl, sym, ◌∙◌, subst, arith, true, false, Option, None, Some}
+use Rattle.std.proofs.Common.{◌≡◌, ℕ, ◌+◌, ◌-◌, ◌*◌, ◌<◌, ◌≤◌, ◌++◌, List, [], length, take, drop, get_or, refl, sym, ◌∙◌, subst, arith, true, false, Option, None, Some}
 use Rattle.std.specs.Prelude.{is_none}
 use Rattle.std.proofs.lemmas.List.{take-append-drop, take_all}
 use Rattle.source_merge.specs.Names.{Cell, Fault, Placed, Said, Settled, Stream, given_after, Step, Event, Packet}
 use Rattle.source_merge.specs.Names.{told, start_of, AllIn, lifted, placed_run, bytes_of, RisesFrom, PassesOver}
-use Rattle.source_merge.specs.declared.counts.PerSource.{PerSource}
-use Rattle.source_merge.specs.Feeding.{MachineFed, MachineKind, PartFed, RunFed}
+use Rattle.recovery_engine.specs.declared.per_source.PerSource.{PerSource}
+use Rattle.source_merge.specs.Feeding.{MachineFed, PartFed, RunFed}
+use Rattle.recovering_machines.specs.Found.{MachineKind}
 use Rattle.source_merge.specs.Giving.{Given}
-use Rattle.source_merge.proofs.RunSteps.{none_of, feeds_none, feeds_kept, feeds_stopped}
-use Rattle.source_merge.proofs.Packets.{feeds_part, front, packet_parts, packet_units}
+use Rattle.source_merge.proofs.RunSteps.{feeds_none, feeds_kept, feeds_stopped}
+use Rattle.recovering_machines.proofs.RunParts.{none_of}
+use Rattle.source_merge.proofs.Packets.{feeds_part, packet_parts}
+use Rattle.recovering_machines.proofs.RunParts.{front, packet_units}
 use Rattle.source_merge.proofs.Givings.{given_more, given_none, given_within}
 use Rattle.source_merge.proofs.ByParts.{FeedsBy}
-
--- an element within a list, whatever stands for those behind it
-same_element : (l : List Cell) (i : ℕ) (d e : Cell) → i < length l → get_or l i d ≡ get_or l i e
-same_element [] i d e h = absurd (omega arith)
-same_element (x ∷ l) zero d e h = refl
-same_element (x ∷ l) (suc i) d e h = same_element l i d e (omega arith)
-
--- the last of so many cells after those that are done
-abbrev pub some_cell : Cell
-some_cell = record { at = 0; id = None; run = 0; byte = 0 }
-
-abbrev pub last_of : List Cell → ℕ → ℕ → Cell
-last_of run done count = get_or run (done + count - 1) some_cell
-
-pub last_is : (run : List Cell) (done count : ℕ) → 0 < count → done + count ≤ length run →
-    last_of run done count ≡ get_or run (done + count - 1) (last_of run done count)
-last_is run done count some within = same_element run (done + count - 1) some_cell (last_of run done count) (omega arith)
 
 -- bytes of a run, with others behind them
 module _ (run : List Cell) (source done count : ℕ) (last : Cell) (is : last ≡ get_or run (done + count - 1) last) (some : 0 < count)

@@ -5,7 +5,7 @@ use Rattle.source_merge.specs.Names.{Cell, id_of, runs_of}
 use Rattle.source_merge.specs.declared.counts.ByteCounts.{ByteCounts}
 use Rattle.source_merge.specs.Counting.{HasBytes, bytes_counted}
 use Rattle.source_merge.specs.Stepping.{CountsFrame}
-use Rattle.source_merge.proofs.Framing.{FirstRun}
+use Rattle.frame_runs.proofs.FirstRuns.{FirstRun}
 use Rattle.source_merge.proofs.Taking.{id_is}
 
 -- the first run, of so many cells: their number, and their source

@@ -14,7 +14,7 @@ use Rattle.source_merge.specs.Names.{runs_of, items_in}
 use Rattle.source_counts.specs.Counts.{all_cells, bytes_of, frame_items}
 use Rattle.source_events.proofs.ReportCounts.{items_counted}
 use Rattle.source_merge.specs.declared.counts.ByteCounts.{ByteCounts}
-use Rattle.source_merge.specs.declared.counts.PerSource.{PerSource}
+use Rattle.recovery_engine.specs.declared.per_source.PerSource.{PerSource}
 use Rattle.source_merge.specs.Answering.{port_of, report_of, fault_of}
 use Rattle.source_merge.specs.Counting.{AreItems, HasBytes, HasItems}
 use Rattle.source_merge.proofs.Attributed.{bytes_are, unattributed_are}

@@ -3,17 +3,19 @@ use Rattle.std.proofs.Common.{append_assoc, ◌≡◌, ℕ, ◌+◌, ◌-◌, �
 use Rattle.std.proofs.Common.{Option, None, Some}
 use Rattle.source_merge.specs.Names.{Cell, Event, Packet, Stop, Mapped, RisesFrom, IsRunFrom, runs_of}
 use Rattle.source_merge.specs.declared.counts.ByteCounts.{ByteCounts}
-use Rattle.source_merge.specs.declared.counts.PerSource.{PerSource}
+use Rattle.recovery_engine.specs.declared.per_source.PerSource.{PerSource}
 use Rattle.source_merge.specs.declared.slot.Slot.{Slot}
 use Rattle.source_merge.specs.Counting.{HasBytes, bytes_counted}
 use Rattle.source_merge.specs.Giving.{Given, Gives}
-use Rattle.source_merge.specs.Routing.{mapped_of, AllStand, AreReady, AreDistinct, RunsBetween, Fed, TakesFrame, TakesRun, TookCells}
+use Rattle.source_merge.specs.Routing.{mapped_of, AllStand, AreReady, RunsBetween, Fed, TakesFrame, TakesRun, TookCells}
+use Rattle.recovery_laws.specs.Distinct.{AreDistinct}
 use Rattle.source_merge.specs.Stepping.{CountsFrame}
 use Rattle.source_events.proofs.Least.{AreSound}
 use Rattle.source_merge.proofs.ByParts.{TookBy}
 use Rattle.source_merge.proofs.Filling.{Filled}
 use Rattle.source_merge.proofs.FrameCounting.{Counting, counting_first, counting_more, none_counted, run_counted}
-use Rattle.source_merge.proofs.Framing.{FirstRun, done_all, took_as, rest_in_order, filled_none, filled_more, fed_all, fed_stopped}
+use Rattle.source_merge.proofs.Framing.{done_all, took_as, rest_in_order, filled_none, filled_more, fed_all, fed_stopped}
+use Rattle.frame_runs.proofs.FirstRuns.{FirstRun}
 use Rattle.source_merge.proofs.Givings.{given_none, given_more, given_within}
 use Rattle.source_merge.proofs.Slots.{ready_more}
 use Rattle.source_merge.proofs.Taking.{lawful, sound}

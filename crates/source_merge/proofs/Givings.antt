@@ -1,7 +1,7 @@
 -- Events that are given one after the other.
 use Rattle.std.proofs.Common.{◌≡◌, ◌≤◌, ◌+◌, ◌++◌, [], ℕ, List, sym, subst, append_assoc, append-nil, arith}
 use Rattle.source_merge.specs.Names.{Event, Packet}
-use Rattle.source_merge.specs.declared.counts.PerSource.{PerSource}
+use Rattle.recovery_engine.specs.declared.per_source.PerSource.{PerSource}
 use Rattle.source_merge.specs.Counting.{HasItems}
 use Rattle.source_merge.specs.Giving.{Given}
 

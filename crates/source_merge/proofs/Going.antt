@@ -21,7 +21,8 @@ use Rattle.source_merge.specs.declared.flow.Flow.TheVariants.{Going}
 use Rattle.source_merge.specs.declared.slot.Slot.{Slot}
 use Rattle.source_merge.specs.Answering.{Answers, port_of, report_of, fault_of, fault_by}
 use Rattle.source_merge.specs.Counting.{HasBytes, HasItems, HasCounted}
-use Rattle.source_merge.specs.Routing.{mapped_of, AreReady, AllStand, AreDistinct}
+use Rattle.source_merge.specs.Routing.{mapped_of, AreReady, AllStand}
+use Rattle.recovery_laws.specs.Distinct.{AreDistinct}
 use Rattle.source_merge.specs.Stepping.{CountsStep, StepAt, TakesStep}
 use Rattle.source_merge.proofs.Steps.{IsNothing, taken_none, rise_push}
 use Rattle.source_merge.proofs.ByParts.{StepTakenBy}

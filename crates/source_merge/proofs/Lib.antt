@@ -1,6 +1,4 @@
 pub mod Givings
-pub mod DataCells
-pub mod RunCells
 pub mod Filling
 pub mod ByParts
 pub mod RunSteps
@@ -25,12 +23,6 @@ pub mod BareCounts
 pub mod BareLists
 pub mod PieceStops
 pub mod BareGrown
-pub mod PieceCells
 pub mod PieceGoing
 pub mod Packets
-pub mod Placing
 pub mod FedRuns
-pub mod Splitting
-pub mod Cuts
-pub mod Parts
-pub mod Triggers

@@ -12,15 +12,17 @@ use Rattle.source_machine.specs.MachineLaws as laws
 use Rattle.source_merge.specs.declared.slot.Slot.{Slot}
 use Rattle.source_merge.specs.Answering.{port_of, report_of, fault_of}
 use Rattle.source_merge.specs.Feeding.{Feeds, IsEarly, place_and_reason}
-use Rattle.source_merge.specs.Routing.{mapped_of, AreReady, AllStand, AreDistinct, HasNot, SlotFed}
+use Rattle.source_merge.specs.Routing.{mapped_of, AreReady, AllStand, SlotFed}
+use Rattle.recovery_laws.specs.Distinct.{AreDistinct, HasNot}
 use Rattle.source_merge.proofs.BareLists.{list_from, others_stand}
 use Rattle.source_merge.proofs.BareGrown.{Grown, piece_grows, piece_stops}
 use Rattle.source_merge.proofs.PieceStops.{PieceStops, piece_stopped}
-use Rattle.source_merge.proofs.PieceCells.{cells_placed, cells_rise}
-use Rattle.source_merge.specs.Piece.{cells_from}
+use Rattle.frame_runs.proofs.PieceCells.{cells_placed, cells_rise}
+use Rattle.frame_runs.specs.Piece.{cells_from}
 use Rattle.source_merge.proofs.Ending.{FirstAt}
-use Rattle.source_merge.proofs.RunSteps.{none_of}
-use Rattle.source_merge.proofs.Slots.{lawful_at, ready_at, mapped_parts, not_before, not_behind, stand_split, stand_join}
+use Rattle.recovering_machines.proofs.RunParts.{none_of}
+use Rattle.source_merge.proofs.Slots.{ready_at, mapped_parts, stand_split, stand_join}
+use Rattle.recovery_laws.proofs.Distinct.{lawful_at, not_before, not_behind}
 use Rattle.source_merge.proofs.Taking.{lawful, sound}
 
 -- a fault is certain with one of these bytes

@@ -1,17 +1,12 @@
 -- Slots that are written through a slice.
-use Rattle.std.proofs.Common.{◌≡◌, ℕ, ◌+◌, ◌≤◌, List, Option, None, subst, ◌++◌, length, take, sym, ◌∙◌, ap, append-nil, arith}
+use Rattle.std.proofs.Common.{◌≡◌, ℕ, ◌+◌, ◌≤◌, List, Option, None, subst, length, sym, ◌∙◌, ap}
 use Rattle.std.specs.List.{refill}
-use Rattle.std.proofs.lemmas.List.{length-map, take_all, drop_all}
+use Rattle.std.proofs.lemmas.List.{length-map}
+use Rattle.recovery_engine.proofs.Refilled.{refilled}
 use Rattle.source_merge.specs.Names.{Mapped, Packet, Stop, reading_of}
 use Rattle.source_merge.specs.declared.slot.Slot.{Slot}
 use Rattle.source_merge.specs.Routing.{AreReady, TookCells, mapped_of}
 use Rattle.source_merge.proofs.Slots.{ready_more}
-
--- a list that is written over by one as long
-pub refilled : {X : Type 0} → (old new : List X) → length new ≡ length old → refill (length old) old new ≡ new
-refilled {X} old new e =
-    ap (λ (l : List X). take (length old) (new ++ l)) (drop_all (length new) old (omega arith))
-    ∙ ap (take (length old)) (append-nil new) ∙ take_all (length old) new (omega arith)
 
 pub slots_are : (old new : List Slot) → mapped_of new ≡ mapped_of old → refill (length old) old new ≡ new
 slots_are old new e = refilled old new (sym (length-map new one) ∙ ap length e ∙ length-map old one) where

@@ -1,5 +1,5 @@
 -- A run that is fed cell by cell.
-use Rattle.std.proofs.Common.{◌≡◌, ℕ, List, [], ◌∷◌, ◌++◌, refl, sym, ◌∙◌, ap, subst, append_assoc, append-nil, Option, None, Some, true, false}
+use Rattle.std.proofs.Common.{◌≡◌, ℕ, List, [], ◌∷◌, ◌++◌, refl, sym, ◌∙◌, ap, subst, append_assoc, append-nil, Option, None, Some, false}
 use Rattle.std.specs.Prelude.{is_none}
 use Rattle.std.specs.Option.{option_map}
 use Rattle.std.proofs.lemmas.List.{map-append}
@@ -9,15 +9,9 @@ use Rattle.trace_values.specs.declared.step.Step.TheVariants.{Fault as Faulty}
 use Rattle.trace_values.specs.Stream.{HuntBy, fault_by, goes_on}
 use Rattle.source_events.specs.Report.{what_of}
 use Rattle.source_merge.specs.Feeding.{step_fault, place_and_reason}
+use Rattle.recovering_machines.proofs.RunParts.{placed_more}
 use Rattle.source_merge.proofs.ByParts.{FeedsBy}
 use Rattle.source_events.proofs.Merges.{told_append}
-
-pub none_of : {A : Type 0} → (x : Option A) → true ≡ is_none x → x ≡ None
-none_of None k = refl
-none_of (Some y) k = cc
-
-pub placed_more : (run more : List Cell) → placed_run (run ++ more) ≡ placed_run run ++ placed_run more
-placed_more run more = map-append (λ (c : Cell). byte_at c.at c.byte) run more
 
 pub lifted_append : {V : Type 0} → (xs ys : List (Said V × Place)) → lifted (xs ++ ys) ≡ lifted xs ++ lifted ys
 lifted_append {V} xs ys = map-append (λ (e : Said V × Place). (what_of e.0, e.1)) xs ys

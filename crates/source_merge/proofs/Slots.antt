@@ -5,14 +5,13 @@ use Rattle.std.specs.List.{position_or_len}
 use Rattle.std.proofs.lemmas.Bool.Decides.{nat_tests}
 use Rattle.std.proofs.lemmas.List.{map-append}
 use Rattle.std.proofs.lemmas.Bool.{eqb-false}
-use Rattle.source_merge.specs.Names.{Cell, Place, Placed, Said, is_source, id_of, placed_run, list_of, told}
-use Rattle.source_merge.specs.Names.{grown, Mapped, Stands, Stop, held_of, is_live, reading_of, skipped_by, IsLawful, AreLawful, lifted, raw_events, events}
+use Rattle.source_merge.specs.Names.{Cell, Placed, is_source, id_of, list_of}
+use Rattle.source_merge.specs.Names.{Stands, Stop, held_of, is_live, reading_of, skipped_by}
 use Rattle.source_merge.specs.declared.slot.Slot.{Slot}
-use Rattle.source_events.specs.Report.{raws}
-use Rattle.source_merge.specs.Routing.{mapped_of, AllStand, AreReady, HasNot, AreDistinct, TookCells}
-use Rattle.source_events.proofs.Least.{AreSound}
-use Rattle.source_events.proofs.Merges.{test_same, test_other, grown_by}
-use Rattle.source_events.proofs.Family.{list_other, raws_own, events_other, own_push}
+use Rattle.source_merge.specs.Routing.{mapped_of, AllStand, AreReady, TookCells}
+use Rattle.recovery_laws.specs.Distinct.{HasNot}
+use Rattle.source_events.proofs.Merges.{test_other}
+use Rattle.source_events.proofs.Family.{list_other}
 
 -- a source that is not there
 cond_none : (t : Bool) (a : ℕ) → cond t (Some a) None ≡ None → t ≡ false
@@ -49,63 +48,6 @@ other_source x y run e n = ap (is_source y) e ∙ test_other x y n
 pub get_seam : {A : Type 0} → (front : List A) (s : A) (back : List A) (d : A) → get_or (front ++ (s ∷ back)) (length front) d ≡ s
 get_seam [] s back d = refl
 get_seam (x ∷ front) s back d = get_seam front s back d
-
-module _ {V : Type 0} where
-  -- the events of a source that stands behind others
-  pub events_at : (a : List (Mapped V)) (s : Mapped V) (b : List (Mapped V)) (x : ℕ) (runs : List (List Cell)) → HasNot x a → events (a ++ (s ∷ b)) x runs ≡ events (s ∷ b) x runs
-  events_at [] s b x runs h = refl
-  events_at (t ∷ a) s b x runs h = events_other t (a ++ (s ∷ b)) x runs h.0 ∙ events_at a s b x runs h.1
-
-  pub events_raw : (ss : List (Mapped V)) (x : ℕ) (runs : List (List Cell)) → HasNot x ss → events ss x runs ≡ raws x runs
-  events_raw [] x runs h = refl
-  events_raw (s ∷ ss) x runs h = events_other s ss x runs h.0 ∙ events_raw ss x runs h.1
-
-  -- distinct sources
-  pub not_before : (a : List (Mapped V)) (s : Mapped V) (b : List (Mapped V)) → AreDistinct (a ++ (s ∷ b)) → HasNot s.id a
-  not_before [] s b d = tt
-  not_before (t ∷ a) s b d = ((λ e. not_in (a) s b d.0 (sym e)), not_before a s b d.1) where
-    not_in : (a : List (Mapped V)) (s : Mapped V) (b : List (Mapped V)) → HasNot t.id (a ++ (s ∷ b)) → t.id ≢ s.id
-    not_in [] s b h = h.0
-    not_in (u ∷ a) s b h = not_in a s b h.1
-
-  pub not_behind : (a : List (Mapped V)) (s : Mapped V) (b : List (Mapped V)) → AreDistinct (a ++ (s ∷ b)) → HasNot s.id b
-  not_behind [] s b d = d.0
-  not_behind (t ∷ a) s b d = not_behind a s b d.1
-
-  -- what a run of a mapped source adds
-  pub grown_own : (a : List (Mapped V)) (s : Mapped V) (b : List (Mapped V)) (runs : List (List Cell)) (run : List Cell) (given : List (Said V × Place)) → HasNot s.id a → id_of run ≡ Some s.id →
-      (s.stream (list_of s.id runs ++ placed_run run)).given ≡ (s.stream (list_of s.id runs)).given ++ given → grown (events (a ++ (s ∷ b))) runs run (id_of run) ≡ told (Some s.id) (lifted given)
-  grown_own a s b runs run given h e g =
-      ap (λ (o : Option ℕ). grown (events (a ++ (s ∷ b))) runs run o) e
-      ∙ grown_by (events (a ++ (s ∷ b))) runs run s.id (lifted given)
-      (events_at a s b s.id (runs ++ run ∷ []) h ∙ own_push s b s.id runs run given refl (ap (is_source s.id) e ∙ test_same s.id s.id refl) g ∙ ap (λ l. l ++ lifted given) (sym (events_at a s b s.id runs h)))
-
-  -- and what one of another source does
-  pub grown_raw : (ss : List (Mapped V)) (runs : List (List Cell)) (run : List Cell) (x : ℕ) → HasNot x ss → id_of run ≡ Some x → grown (events ss) runs run (id_of run) ≡ told (Some x) (raw_events x run)
-  grown_raw ss runs run x h e =
-      ap (λ (o : Option ℕ). grown (events ss) runs run o) e
-      ∙ grown_by (events ss) runs run x (raw_events x run)
-      (events_raw ss x (runs ++ run ∷ []) h ∙ raws_own x runs run (ap (is_source x) e ∙ test_same x x refl) ∙ ap (λ l. l ++ raw_events x run) (sym (events_raw ss x runs h)))
-
-  pub grown_none : (ss : List (Mapped V)) (runs : List (List Cell)) (run : List Cell) → id_of run ≡ None → grown (events ss) runs run (id_of run) ≡ []
-  grown_none ss runs run e = ap (λ (o : Option ℕ). grown (events ss) runs run o) e
-
-  -- a run of another source, or of none, changes no source's list
-  pub sound_other : (ss : List (Mapped V)) (runs : List (List Cell)) (run : List Cell) (x : ℕ) → HasNot x ss → id_of run ≡ Some x → AreSound ss runs → AreSound ss (runs ++ run ∷ [])
-  sound_other [] runs run x h e a = tt
-  sound_other (s ∷ ss) runs run x h e a = (ap (λ (l : List Placed). (s.stream l).fault) (list_other s.id runs run (other_source x s.id run e h.0)) ∙ a.0, sound_other ss runs run x h.1 e a.1)
-
-  pub sound_front : (a : List (Mapped V)) (s : Mapped V) (b : List (Mapped V)) (runs : List (List Cell)) → AreSound (a ++ (s ∷ b)) runs → AreSound a runs
-  sound_front [] s b runs h = tt
-  sound_front (t ∷ a) s b runs h = (h.0, sound_front a s b runs h.1)
-
-  pub sound_back : (a : List (Mapped V)) (s : Mapped V) (b : List (Mapped V)) (runs : List (List Cell)) → AreSound (a ++ (s ∷ b)) runs → AreSound (s ∷ b) runs
-  sound_back [] s b runs h = h
-  sound_back (t ∷ a) s b runs h = sound_back a s b runs h.1
-
-  pub lawful_at : (a : List (Mapped V)) (s : Mapped V) (b : List (Mapped V)) → AreLawful (a ++ (s ∷ b)) → AreLawful a × IsLawful s.stream × AreLawful b
-  lawful_at [] s b h = (tt, h.0, h.1)
-  lawful_at (t ∷ a) s b h = let k = lawful_at a s b h.1 in ((h.0, k.0), k.1, k.2)
 
 -- what slots stand for
 pub stand_other : (slots : List Slot) (runs : List (List Cell)) (run : List Cell) (x : ℕ) → HasNot x (mapped_of slots) → id_of run ≡ Some x → AllStand slots runs → AllStand slots (runs ++ run ∷ [])

@@ -8,14 +8,16 @@ use Rattle.source_merge.specs.Names.{Below, Mapped, IsLawful, AreLawful, lifted,
 use Rattle.source_machine.specs.MachineLaws as laws
 use Rattle.source_merge.specs.declared.slot.Slot.{Slot}
 use Rattle.source_merge.specs.Feeding.{place_and_reason, IsEarly}
-use Rattle.source_merge.specs.Routing.{mapped_of, AreReady, AllStand, HasNot, AreDistinct, SlotFed, SlotPlace, Stops, StopsBy}
+use Rattle.source_merge.specs.Routing.{mapped_of, AreReady, AllStand, SlotFed, SlotPlace, Stops, StopsBy}
+use Rattle.recovery_laws.specs.Distinct.{HasNot, AreDistinct}
 use Rattle.source_events.proofs.Least.{AreSound}
 use Rattle.source_events.proofs.Merges.{test_same, below_told}
 use Rattle.source_events.proofs.Family.{all_lifted, list_own, within_run, run_fault}
 use Rattle.source_events.proofs.Least.{least_at}
-use Rattle.source_merge.proofs.RunSteps.{none_of}
+use Rattle.recovering_machines.proofs.RunParts.{none_of}
 use Rattle.source_merge.proofs.ByParts.{FeedsBy, TookBy}
-use Rattle.source_merge.proofs.Slots.{grown_own, grown_raw, grown_none, not_before, not_behind, sound_other, sound_front, sound_back, lawful_at, stand_other, stand_none, stand_split, stand_join, mapped_parts, ready_join}
+use Rattle.source_merge.proofs.Slots.{stand_other, stand_none, stand_split, stand_join, mapped_parts, ready_join}
+use Rattle.recovery_laws.proofs.Distinct.{grown_own, grown_raw, grown_none, not_before, not_behind, sound_other, sound_front, sound_back, lawful_at}
 
 pub id_is : (run : List Cell) (d : Cell) → 0 < length run → (get_or run 0 d).id ≡ id_of run
 id_is [] d h = absurd (omega arith)

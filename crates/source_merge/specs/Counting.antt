@@ -1,20 +1,14 @@
 -- What is counted of a capture.
-use Rattle.std.specs.Prelude.{◌≡◌, ℕ, ◌+◌, ◌≤◌, List, length, slice_index, sum, if◌then◌else◌, is_none}
+use Rattle.std.specs.Prelude.{◌≡◌, ℕ, ◌+◌, ◌≤◌, List, length, if◌then◌else◌, is_none}
 use Rattle.std.specs.List.{sum_by}
 use Rattle.source_merge.specs.Names.{Cell, PortReading, items_of, unattributed_of, Event, Packet, PortCounts, id_of}
 use Rattle.source_merge.specs.Names.{list_of, runs_in, items_in}
 use Rattle.source_counts.specs.Counts.{bytes_of}
 use Rattle.source_counts.specs.Kept as kept
-use Rattle.source_merge.specs.declared.counts.PerSource.{PerSource}
+use Rattle.recovery_engine.specs.PerSource.{number_of, total_of}
+use Rattle.recovery_engine.specs.declared.per_source.PerSource.{PerSource}
 use Rattle.source_merge.specs.declared.counts.ByteCounts.{ByteCounts}
 use Rattle.source_merge.specs.declared.counts.Counters.{Counters}
-
--- the number of a source, and the sum of all
-abbrev pub number_of : PerSource → ℕ → ℕ
-number_of numbers id = slice_index numbers.numbers id
-
-abbrev pub total_of : PerSource → ℕ
-total_of numbers = sum numbers.numbers
 
 -- the bytes of a source in these runs, and those of no source
 abbrev pub bytes_in : ℕ → List (List Cell) → ℕ

@@ -1,8 +1,9 @@
 -- What a machine makes of a run.
-use Rattle.std.specs.Prelude.{◌≡◌, ℕ, ◌+◌, ◌*◌, ◌≤◌, List, ◌++◌, length, take, Bool, Option, None, Some, is_none}
+use Rattle.std.specs.Prelude.{◌≡◌, ℕ, ◌+◌, ◌*◌, ◌≤◌, List, ◌++◌, length, take, Option, None, Some, is_none}
 use Rattle.std.specs.Option.{option_map}
 use Rattle.source_merge.specs.Names.{Cell, Fault, Reason, Step, Place, Placed, Said, Stream, Event, placed_run}
 use Rattle.source_merge.specs.Names.{RisesFrom, told, start_of, AllIn, lifted}
+use Rattle.recovering_machines.specs.Found.{MachineKind}
 use Rattle.trace_values.specs.declared.step.Step.TheVariants.{Fault as Faulty}
 
 -- the fault that a step tells
@@ -50,15 +51,6 @@ IsEarly reading stands run None = Unit {0}
 IsEarly {V} reading stands run (Some f) =
     (u : List Placed) → stands u → (n : ℕ) → RisesFrom n run → (given : List (Said V × Place)) →
     (reading (u ++ placed_run run)).given ≡ (reading u).given ++ given → AllIn (start_of n) f.at given
-
--- What a kind of machine reads a list as, and which lists it stands for; whether it is live, and how many units it
--- holds and has skipped.
-pub record MachineKind (M V : Type 0) : Type 1 where
-  pub reading : M → List Placed → Stream V
-  pub stands : M → List Placed → Type 0
-  pub live : M → Bool
-  pub held : M → ℕ
-  pub skipped : M → ℕ
 
 -- A machine took a run.
 pub record MachineFed {M V : Type 0} (kind : MachineKind M V) (old new : M) (fed : RunFed V) : Type 0 where

@@ -1,8 +1,10 @@
 -- Events that are given to a receiver, and the counts of them.
-use Rattle.std.specs.Prelude.{ℕ, ◌+◌, ◌≤◌, List, [], ◌++◌}
+use Rattle.std.specs.Prelude.{ℕ, ◌+◌, ◌≤◌, List, ◌++◌}
 use Rattle.source_merge.specs.Names.{Cell, Event, Packet, COUNT_ROOM}
-use Rattle.source_merge.specs.declared.counts.PerSource.{PerSource}
-use Rattle.source_merge.specs.Counting.{HasItems, total_of}
+use Rattle.recovery_engine.specs.declared.per_source.PerSource.{PerSource}
+use Rattle.recovery_engine.specs.PerSource.{total_of}
+pub use Rattle.recovering_machines.specs.Hearing.{AddsUp}
+use Rattle.source_merge.specs.Counting.{HasItems}
 
 -- There is room for so many events more, with what takes them and in their counts.
 pub record HasRoom {S : Type 0} (room : S → ℕ) (most : ℕ) (now : PerSource × S) : Type 0 where
@@ -27,8 +29,3 @@ Gives gets room most old new says = (es : List (Event Packet)) × Given gets roo
 abbrev pub GivesTo : {S : Type 0} → (S → List (Event Packet) → S → Type 0) → S → S →
     (List (Event Packet) → Type 0) → Type 0
 GivesTo gets old new says = (es : List (Event Packet)) × gets old es new × says es
-
--- What takes events adds them up: given none it is as before, and given some and then more it was given all of them.
-pub record AddsUp {S E : Type 0} (gets : S → List E → S → Type 0) : Type 0 where
-  pub none : (s : S) → gets s [] s
-  pub more : (a b c : S) (es fs : List E) → gets a es b → gets b fs c → gets a (es ++ fs) c

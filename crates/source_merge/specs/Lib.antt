@@ -1,7 +1,5 @@
 pub mod Names
 pub mod Feeding
-pub mod Run
-pub mod Piece
 pub mod Frame
 pub mod Routing
 pub mod RoutingLaws
@@ -15,4 +13,4 @@ pub mod Stepping
 pub mod Ending
 pub mod Engine
 pub mod Front
-pub mod Split
+pub mod Suits

@@ -1,12 +1,14 @@
 -- What the code makes of the runs of a frame.
-use Rattle.std.specs.Prelude.{◌≡◌, ◌≢◌, ℕ, ◌+◌, ◌<◌, ◌≤◌, List, [], ◌∷◌, ◌++◌, map, length, true, Option, None, Some}
+use Rattle.std.specs.Prelude.{◌≡◌, ℕ, ◌+◌, ◌<◌, ◌≤◌, List, [], ◌∷◌, ◌++◌, map, true, Option, None, Some}
 use Rattle.std.specs.Option.{option_map}
 use Rattle.source_merge.specs.Names.{Cell, Event, Stop, IsRunFrom, RisesFrom, end_of, list_of, id_of, grown, runs_of}
 use Rattle.source_merge.specs.Names.{InOrder, Below, Mapped, Packet, events, reported, least_fault, stop_of}
-use Rattle.source_merge.specs.Names.{SourceMachine, Stands, held_of, is_live, reading_of, skipped_by}
+use Rattle.source_merge.specs.Names.{Stands, held_of, is_live, reading_of, skipped_by}
 use Rattle.source_events.specs.Merge.{Between}
 use Rattle.source_merge.specs.declared.slot.Slot.{Slot}
-use Rattle.source_merge.specs.Feeding.{MachineFed, MachineKind, RunFed}
+use Rattle.recovering_machines.specs.Found.{source_machines}
+use Rattle.recovery_laws.specs.Distinct.{AreDistinct}
+use Rattle.source_merge.specs.Feeding.{MachineFed, RunFed}
 
 -- the mapped sources of these machines
 abbrev pub mapped_of : List Slot → List (Mapped Packet)
@@ -23,14 +25,6 @@ AreReady n [] = Unit {0}
 AreReady n (s ∷ slots) =
     ((is_live s.machine ≡ true) × (held_of s.machine + skipped_by s.machine ≤ n)) × AreReady n slots
 
-abbrev pub HasNot : {V : Type 0} → ℕ → List (Mapped V) → Type 0
-HasNot x [] = Unit {0}
-HasNot x (s ∷ ss) = (x ≢ s.id) × HasNot x ss
-
-abbrev pub AreDistinct : {V : Type 0} → List (Mapped V) → Type 0
-AreDistinct [] = Unit {0}
-AreDistinct (s ∷ ss) = HasNot s.id ss × AreDistinct ss
-
 -- runs from one offset on, up to another
 abbrev pub RunsBetween : ℕ → ℕ → List (List Cell) → Type 0
 RunsBetween n k runs = Between IsRunFrom end_of n k runs
@@ -40,16 +34,6 @@ pub record SlotPlace : Type 0 where
   pub front : List Slot
   pub slot : Slot
   pub back : List Slot
-
--- the machines of mapped sources
-abbrev pub source_machines : MachineKind SourceMachine Packet
-source_machines = record {
-  reading = reading_of;
-  stands = Stands;
-  live = is_live;
-  held = held_of;
-  skipped = skipped_by;
-}
 
 -- The machine of one slot took a run: the slots before and after it are as before.
 pub record SlotFed (old : SlotPlace) (slots : List Slot) (fed : RunFed Packet) : Type 0 where
@@ -70,12 +54,6 @@ pub record Stops {V : Type 0} (mapped : List (Mapped V)) (runs : List (List Cell
 abbrev pub StopsBy : {V : Type 0} → List (Mapped V) → List (List Cell) → ℕ → List Cell → Option Stop → Type 0
 StopsBy mapped runs n run None = Unit {0}
 StopsBy mapped runs n run (Some stop) = Stops mapped runs n run stop
-
--- a run of one frame: the source of its cells
-pub record IsRunOf (source : Option ℕ) (run : List Cell) : Type 0 where
-  pub own : id_of run ≡ source
-  pub some : 0 < length run
-  pub few : length run ≤ 15
 
 -- A run that was taken: its events, and the fault with which it stops the report.
 pub record RunTaken (V : Type 0) : Type 0 where

@@ -8,7 +8,8 @@ use Rattle.source_merge.specs.declared.counts.ByteCounts.{ByteCounts}
 use Rattle.source_merge.specs.declared.counts.Counters.{Counters}
 use Rattle.source_merge.specs.declared.slot.TheConstants.{FRAME_ROOM}
 use Rattle.source_merge.specs.Counting.{HasBytes, HasCounted, bytes_counted, size_of, whole_of}
-use Rattle.source_merge.specs.Routing.{AreReady, AllStand, AreDistinct, mapped_of}
+use Rattle.source_merge.specs.Routing.{AreReady, AllStand, mapped_of}
+use Rattle.recovery_laws.specs.Distinct.{AreDistinct}
 
 -- A step of the port: the bytes before it and those with it, the events that were given, and the fault with which the
 -- report stops.

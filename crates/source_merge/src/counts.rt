@@ -1,90 +1,50 @@
 //! What is counted of a capture.
 
-ghost use Rattle.std.specs.Prelude.{◌≡◌, ◌≤◌, ◌<◌, ◌+◌, ◌^◌, ℕ, List};
+ghost use Rattle.std.specs.Prelude.{◌≡◌, ◌≤◌, ◌<◌, ◌+◌, ◌^◌, ◌++◌, ◌∷◌, [], ℕ, List, Some, true};
+ghost use Rattle.recovery_engine.specs.PerSource.{total_of};
+ghost use Rattle.source_events.specs.Report.{is_item};
+ghost use Rattle.source_events.specs.declared.event.Event.{Event};
+ghost use Rattle.source_events.specs.declared.packet.Packet.{Packet};
 ghost use Rattle.source_merge.specs.Names.{Cell, PortReading, COUNT_ROOM};
 ghost use Rattle.deformatter.specs.ReadingGrowth.{Grows};
-ghost use Rattle.source_merge.specs.Counting.{HasPort, port_total};
+ghost use Rattle.source_merge.specs.Counting.{HasItems, HasPort, port_total};
 
-use crate::bare::bare_source;
 use deformatter::PortStep;
 use frame_grammar::frame::FRAME_BYTES;
+use frame_runs::bare_source;
+use recovery_engine::PerSource;
 use source_counts::{Counts, SourceCounts};
 use source_events::{Event, Packet, PortCounts, What};
-use trace_values::{Cell, ID_COUNT, SourceId};
+use trace_values::{Cell, SourceId};
 
 /// The most that is counted of frames that are counted whole: more than a capture has bytes.
 const MOST_WHOLE: u64 = 1 << 37;
 
-/// A number for each source.
-#[derive(Debug, Drop)]
-pub struct PerSource {
-    numbers: [u64; ID_COUNT],
+/// Counts an event of this source, which is no notice.
+#[inline(always)]
+pub fn add_event(items: &mut PerSource, source: SourceId)
+    requires { total_of items.old + 1 ≤ COUNT_ROOM }
+    ensures items { (whole : List (List Cell)) (es : List (Event Packet)) (event : Event Packet) →
+        event.source ≡ Some source → is_item event.what ≡ true → HasItems items.old whole es →
+        HasItems items.new whole (es ++ event ∷ []) }
+    ensures total { total_of items.new ≤ total_of items.old + 1 }
+{
+    items.add(source, 1);
 }
 
-impl PerSource {
-    ghost use Rattle.std.specs.Prelude.{◌+◌, ◌^◌, ◌≤◌, ◌++◌, ◌∷◌, [], ℕ, List, if◌then◌else◌, ◌==◌, true};
-    ghost use Rattle.source_events.specs.Report.{is_item};
-    ghost use Rattle.source_events.specs.declared.event.Event.{Event};
-    ghost use Rattle.source_events.specs.declared.packet.Packet.{Packet};
-    ghost use Rattle.std.specs.Prelude.{Some};
-    ghost use Rattle.source_merge.specs.Counting.{HasItems, number_of, total_of};
-    ghost use Rattle.trace_values.specs.declared.cell.Cell.{Cell};
-
-    /// 0 for each.
-    pub fn new() -> PerSource
-        ensures none { (id : ℕ) → id ≤ 126 → number_of result id ≡ 0 }
-        ensures total { total_of result ≡ 0 }
-    {
-        PerSource {
-            numbers: [0; ID_COUNT],
-        }
-    }
-
-    /// The number of a source.
-    pub fn of(&self, id: SourceId) -> u64
-        ensures value { result ≡ number_of self.now id }
-        ensures few { result ≤ total_of self.now }
-    {
-        self.numbers[usize::from(id.number())]
-    }
-
-    /// Adds to the number of a source. The sum of all is at most 2^60 with it.
-    #[inline(always)]
-    pub fn add(&mut self, id: SourceId, more: u64)
-        requires { total_of self.old + more ≤ COUNT_ROOM }
-        ensures numbers { (k : ℕ) → number_of self.new k ≡ number_of self.old k + (if k == id then more else 0) }
-        ensures total { total_of self.new ≡ total_of self.old + more }
-    {
-        let number: &mut u64 = &mut self.numbers[usize::from(id.number())];
-        *number += more;
-    }
-
-    /// Counts an event of this source, which is no notice.
-    #[inline(always)]
-    pub fn add_event(&mut self, source: SourceId)
-        requires { total_of self.old + 1 ≤ COUNT_ROOM }
-        ensures items { (whole : List (List Cell)) (es : List (Event Packet)) (event : Event Packet) →
-            event.source ≡ Some source → is_item event.what ≡ true → HasItems self.old whole es →
-            HasItems self.new whole (es ++ event ∷ []) }
-        ensures total { total_of self.new ≤ total_of self.old + 1 }
-    {
-        self.add(source, 1);
-    }
-
-    /// Counts an event of a source that is no notice.
-    #[inline(always)]
-    pub fn add_item(&mut self, event: &Event<Packet>)
-        requires { total_of self.old + 1 ≤ COUNT_ROOM }
-        ensures items { (whole : List (List Cell)) (es : List (Event Packet)) → HasItems self.old whole es →
-            HasItems self.new whole (es ++ event.now ∷ []) }
-        ensures total { total_of self.new ≤ total_of self.old + 1 }
-    {
-        match event.what {
-            What::Locked(_) => {}
-            What::Packet(_) | What::Raw(_) | What::Trigger(_) => {
-                if let Some(id) = event.source {
-                    self.add_event(id);
-                }
+/// Counts an event of a source that is no notice.
+#[inline(always)]
+pub fn add_item(items: &mut PerSource, event: &Event<Packet>)
+    requires { total_of items.old + 1 ≤ COUNT_ROOM }
+    ensures items { (whole : List (List Cell)) (es : List (Event Packet)) → HasItems items.old whole es →
+        HasItems items.new whole (es ++ event.now ∷ []) }
+    ensures total { total_of items.new ≤ total_of items.old + 1 }
+{
+    match event.what {
+        What::Locked(_) => {}
+        What::Packet(_) | What::Raw(_) | What::Trigger(_) => {
+            if let Some(id) = event.source {
+                add_event(items, id);
             }
         }
     }

@@ -9,12 +9,10 @@ ghost use Rattle.source_merge.specs.Counting.{size_of, whole_of};
 ghost use Rattle.source_merge.specs.Routing.{AreReady};
 ghost use Rattle.source_merge.specs.RoutingLaws.{ready-prop};
 
-use crate::bare::{bare_source, taken_of};
 use crate::counts::Counters;
-use crate::flow::{Fed, Flow, flow_of, keep};
+use crate::flow::{Fed, Flow, flow_of, keep, taken_of};
 use crate::frame::AnyFrame;
 use crate::mapped::{Slots, slots_of};
-use crate::piece::PieceRun;
 use crate::receiver::Receiver;
 use crate::router::{feed_slot, find, stop_by};
 use crate::slot::Events;
@@ -25,7 +23,7 @@ use deformatter::{PortReader, PortStep};
 use frame_grammar::frame::FRAME_BYTES;
 use frame_grammar::gather::{PlacedFrame, gather_frame_at};
 use frame_grammar::plain::plain_frame;
-use frame_runs::place_plain;
+use frame_runs::{PieceRun, bare_source, place_plain};
 use source_counts::Counts;
 use source_events::{Plan, PortCounts, PortMode, Stop, Tails};
 use source_machine::AHEAD;
@@ -84,7 +82,7 @@ impl Engine {
     ghost use Rattle.source_merge.specs.Engine.{Stands, is_live, next_of, plan_of};
     ghost use Rattle.source_merge.specs.Front.{GivesLast, IsBare, IsNext, ReadsTo, TakesFront, TakesGathered};
     ghost use Rattle.source_merge.specs.Front.{TakesLast, fed};
-    ghost use Rattle.source_merge.specs.Piece.{bytes_in};
+    ghost use Rattle.frame_runs.specs.Piece.{bytes_in};
 
     /// An engine before the first byte. Its plan is sound.
     pub fn new(plan: Plan) -> Engine

@@ -7,10 +7,11 @@ ghost use Rattle.source_merge.specs.Routing.{TakesFrame, TookCells};
 ghost use Rattle.source_merge.specs.Stepping.{CountsFrame, MayTake};
 ghost use Rattle.source_merge.specs.declared.slot.Slot.{Slot};
 
-use crate::counts::{ByteCounts, PerSource};
+use crate::counts::ByteCounts;
 use crate::receiver::Receiver;
 use crate::router::take_frame;
 use crate::slot::Slot;
+use recovery_engine::PerSource;
 use source_events::Stop;
 use source_machine::SourceMachine;
 use trace_values::Cell;

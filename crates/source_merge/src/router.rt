@@ -5,15 +5,17 @@ ghost use Rattle.trace_values.specs.declared.limits.TheConstants.{PART_ROOM};
 ghost use Rattle.source_merge.specs.declared.slot.TheConstants.{FRAME_ROOM};
 ghost use Rattle.std.specs.Prelude.{◌≡◌, ◌+◌, ◌*◌, ◌<◌, ◌≤◌, ◌++◌, ◌∷◌, length, None, Some, position, ◌==◌};
 ghost use Rattle.std.specs.Option.{option_map};
-ghost use Rattle.source_merge.specs.Routing.{AreReady, IsRunOf, SlotFed, SlotPlace, TakesFrame, TakesRun, TookCells};
+ghost use Rattle.source_merge.specs.Routing.{AreReady, SlotFed, SlotPlace, TakesFrame, TakesRun, TookCells};
+ghost use Rattle.frame_runs.specs.Run.{IsRunOf};
 ghost use Rattle.source_merge.specs.Giving.{Given, Gives, HasRoom};
 ghost use Rattle.source_merge.specs.Counting.{bytes_counted};
 ghost use Rattle.source_merge.specs.Stepping.{CountsFrame, MayTake};
 
-use crate::counts::{ByteCounts, PerSource};
+use crate::counts::{ByteCounts, add_event};
 use crate::receiver::Receiver;
-use crate::run::{CellRun, Run};
 use crate::slot::{Slot, feed_run};
+use frame_runs::{CellRun, Run};
+use recovery_engine::PerSource;
 use source_events::{Packet, Stop, run_length};
 use source_machine::SourceMachine;
 use trace_values::{Cell, Fault, SourceId};
@@ -38,7 +40,7 @@ fn give_triggers<R: Run, V: Receiver>(
 {
     for index in 0..run.len() {
         let cell = run.cell(index);
-        items.add_event(source);
+        add_event(items, source);
         out.give_trigger(to, cell.at, source, cell.byte);
     }
 }
@@ -69,7 +71,7 @@ fn give_raw<R: Run, V: Receiver>(
     }
     let count = run.len();
     let at = run.cell(count - 1).at;
-    items.add_event(source);
+    add_event(items, source);
     out.give_raw(to, at, source, &run.ahead()[..count]);
 }
 

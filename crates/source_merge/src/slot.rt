@@ -10,11 +10,12 @@ ghost use Rattle.source_merge.specs.declared.slot.TheConstants.{FRAME_ROOM};
 ghost use Rattle.source_merge.specs.Feeding.{MachineFed, PartFed, step_fault};
 ghost use Rattle.source_merge.specs.Giving.{Given, Gives, HasRoom};
 
-use crate::counts::PerSource;
+use crate::counts::{add_event, add_item};
 use crate::receiver::Receiver;
-use crate::run::Run;
 use arrayvec::ArrayVec;
+use frame_runs::Run;
 use itm_codec::ItmDecoder;
+use recovery_engine::PerSource;
 use source_events::{Event, Packet, SourceKind, What};
 use source_machine::{Finds, SourceMachine, Told};
 use stp_codec::StpDecoder;
@@ -57,7 +58,7 @@ pub fn give<V: Receiver>(items: &mut PerSource, out: &mut V, to: &mut V::To, eve
     ensures { Given V.gets V.room 1 (items.old, (out.old, to.old)) (items.new, (out.new, to.new))
         (event ∷ []) }
 {
-    items.add_item(&event);
+    add_item(items, &event);
     out.give(to, event);
 }
 
@@ -165,7 +166,7 @@ impl GivesTold for ItmDecoder {
         // It is matched in two steps, since by one pattern the packet would go to memory, too.
         if let Some(said) = taken.item {
             if let Told::Itm(packet) = said {
-                items.add_event(source);
+                add_event(items, source);
                 out.give_itm(to, at, taken.half, source, packet);
             }
         }
@@ -183,7 +184,7 @@ impl GivesTold for StpDecoder {
         taken: TakenAtOnce<Told>,
     ) {
         if let Some(Told::Stp(said)) = taken.item {
-            items.add_event(source);
+            add_event(items, source);
             out.give_said(to, at, taken.half, source, said);
         }
     }

@@ -8,14 +8,14 @@ ghost use Rattle.source_merge.specs.Giving.{Gives, GivesTo, HasRoom};
 ghost use Rattle.source_merge.specs.Routing.{TookCells};
 ghost use Rattle.source_merge.specs.Stepping.{CountsBytes, CountsFew, CountsStep, IsReady, MayTake, StepAt, TakesStep};
 
-use crate::counts::{ByteCounts, Counters, PerSource, add_step};
+use crate::counts::{ByteCounts, Counters, add_step};
 use crate::frame::FrameCells;
 use crate::receiver::Receiver;
 use crate::slot::{Slot, give};
-use crate::split::{PlacedData, SplitFrame};
 use deformatter::PortStep;
 use frame_grammar::gather::PlacedFrame;
-use frame_runs::after_frame;
+use frame_runs::{PlacedData, SplitFrame, after_frame};
+use recovery_engine::PerSource;
 use source_events::{Event, Packet, Stop, What};
 use source_machine::SourceMachine;
 use trace_values::SourceId;

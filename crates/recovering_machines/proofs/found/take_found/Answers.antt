@@ -1,7 +1,7 @@
 use Rattle.std.proofs.Common.{subst, sym}
 use Rattle.source_machine.specs.declared.machine.SourceMachine.{SourceMachine}
 use Rattle.source_machine.specs.declared.machine.SourceMachine.TheVariants.{Itm, Stp}
-use Rattle.source_merge.specs.Routing.{source_machines}
+use Rattle.recovering_machines.specs.Found.{source_machines}
 use Rattle.recovering_machines.specs.Found.{TookPackets}
 use Rattle.recovering_machines.proofs.found.take_found.Goals as goal
 

@@ -2,7 +2,7 @@ use Rattle.std.proofs.Common.{◌≡◌, ℕ, sym, ◌∙◌, subst, Some, None,
 use Rattle.std.specs.Prelude.{IfSome, is_some, nat_le}
 use Rattle.trace_values.specs.Cells.{source_id}
 use Rattle.source_events.specs.Plan.{kind_of}
-use Rattle.source_merge.specs.Ending.{all_of}
+use Rattle.recovery_engine.specs.Ends.{all_of}
 use Rattle.recovery_report.specs.Report.{tail_by}
 use Rattle.recovery_engine.specs.Slots.{source_at}
 use Rattle.recovery_engine.proofs.Ending.{tail_is, there}

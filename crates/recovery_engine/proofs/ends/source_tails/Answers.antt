@@ -1,8 +1,8 @@
 use Rattle.std.proofs.Common.{◌≡◌, ◌+◌, [], ◌∷◌, ◌++◌, length, sym, ◌∙◌, ap, append-nil, arith, length-append}
 use Rattle.trace_values.specs.declared.limits.TheConstants.{ID_COUNT}
-use Rattle.source_merge.proofs.Ending.{below_all, below_more, below_found}
 use Rattle.recovery_report.specs.Report.{source_tails}
-use Rattle.recovery_engine.proofs.Ending.{any_at, as_slots, length-as_slots, no_tails, tails_more}
+use Rattle.recovery_engine.proofs.Below.{below_all, below_more, below_found}
+use Rattle.recovery_engine.proofs.Ending.{no_tails, tails_more}
 use Rattle.recovery_engine.proofs.ends.source_tails.Goals as goal
 use Rattle.recovery_engine.proofs.ends.source_tails.Goals.{in-Some, in_default}
 
@@ -14,12 +14,11 @@ loop-number-init c = record {
 
 pub push-requires : goal.push-requires
 push-requires c =
-    (let all = as_slots c.args.slots.now in
+    (let all = c.args.slots.now in
     let n = c.loop-number.number in
-    let a = below_found n all (any_at n c.args.slots.now c.in-Some.ensures.found) in
+    let a = below_found n all c.in-Some.ensures.found in
     let b = below_all (n + 1) all in
-    let l = length-as_slots c.args.slots.now in
-    let d = c.loop-number.invariant.few in let e = c.requires.few in omega (arith, a, b, l, d, e))
+    let d = c.loop-number.invariant.few in let e = c.requires.few in omega (arith, a, b, d, e))
 
 pub loop-number-preserved : goal.loop-number-preserved
 loop-number-preserved c =
@@ -30,7 +29,7 @@ loop-number-preserved c =
       | in-Some w ↦
           record {
             few =
-                (let a = below_found n (as_slots slots) (any_at n slots w.in-Some.ensures.found) in
+                (let a = below_found n slots w.in-Some.ensures.found in
                 let b = ap length (w.tails-is ∙ w.push.ensures) in
                 let d = length-append c.loop-number.tails (w.in-Some.tail ∷ []) in
                 let e = c.loop-number.invariant.few in omega (arith, a, b, d, e));
@@ -43,7 +42,7 @@ loop-number-preserved c =
       | in_default w ↦
           record {
             few =
-                (let a = below_more n (as_slots slots) in let b = ap length w.tails-is in
+                (let a = below_more n slots in let b = ap length w.tails-is in
                 let e = c.loop-number.invariant.few in omega (arith, a, b, e));
             tails = λ guesses parts k.
                 w.tails-is ∙ c.loop-number.invariant.tails guesses parts k

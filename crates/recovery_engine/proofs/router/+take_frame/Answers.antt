@@ -4,9 +4,9 @@ use Rattle.std.proofs.lemmas.Bool.Decides.{nat_tests}
 use Rattle.std.proofs.lemmas.List.{length-drop, length-take-le, take_all}
 use Rattle.trace_values.specs.declared.cell.Cell.{Cell}
 use Rattle.source_events.specs.Runs.{id_of, runs_of}
-use Rattle.source_merge.specs.Run.{cells_of}
-use Rattle.source_merge.proofs.Framing.{cut_at}
-use Rattle.source_merge.proofs.Taking.{id_is}
+use Rattle.frame_runs.specs.Run.{cells_of}
+use Rattle.frame_runs.proofs.FirstRuns.{cut_at}
+use Rattle.recovery_engine.proofs.Frames.{id_is}
 use Rattle.recovery_report.specs.Report.{Run}
 use Rattle.recovery_engine.specs.Taking.{Takes}
 use Rattle.recovery_engine.proofs.Parts.{takes_none, takes_then}

@@ -1,5 +1,5 @@
 use Rattle.std.proofs.Common.{◌∷◌, [], take, subst, arith}
-use Rattle.source_merge.proofs.Triggers.{told_by, trigger, one_more}
+use Rattle.recovery_engine.proofs.Triggers.{told_by, trigger, one_more}
 use Rattle.recovery_engine.proofs.router.give_triggers.Goals as goal
 
 pub loop-index-init : goal.loop-index-init

@@ -5,9 +5,9 @@ use Rattle.frame_grammar.specs.declared.gather.PlacedFrame.{PlacedFrame}
 use Rattle.frame_grammar.proofs.CellLaws.{few_cells}
 use Rattle.frame_runs.specs.Gathered.{frame_places}
 use Rattle.source_events.specs.Runs.{runs_of}
-use Rattle.source_merge.specs.Split.{left_cells, run_in, split_cells}
-use Rattle.source_merge.specs.declared.split.SplitFrame.{SplitFrame}
-use Rattle.source_merge.proofs.Parts.{first_run}
+use Rattle.frame_runs.specs.Split.{left_cells, run_in, split_cells}
+use Rattle.frame_runs.specs.declared.split.SplitFrame.{SplitFrame}
+use Rattle.frame_runs.proofs.Parts.{first_run}
 use Rattle.recovery_report.specs.Report.{Run}
 use Rattle.recovery_engine.specs.Taking.{Takes}
 use Rattle.recovery_engine.proofs.Frames.{SoFar, all_taken, none_taken, one_more}

@@ -1,5 +1,5 @@
 use Rattle.std.proofs.Common.{length}
-use Rattle.source_merge.specs.Split.{IsLeft, left_cells, split_cells}
+use Rattle.frame_runs.specs.Split.{IsLeft, left_cells, split_cells}
 use Rattle.recovery_engine.proofs.Frames.{SoFar}
 use Rattle.recovery_engine.proofs.router.take_whole.Given as goal
 

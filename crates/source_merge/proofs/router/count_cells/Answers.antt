@@ -4,7 +4,7 @@ use Rattle.std.proofs.lemmas.Bool.Decides.{nat_tests}
 use Rattle.source_merge.specs.Names.{Cell}
 use Rattle.source_merge.specs.Counting.{bytes_counted}
 use Rattle.source_merge.proofs.FrameCounting.{Counting, counting_first, counting_more, first_is, none_counted}
-use Rattle.source_merge.proofs.Framing.{cut_first}
+use Rattle.frame_runs.proofs.FirstRuns.{cut_first}
 use Rattle.source_merge.proofs.router.count_cells.Goals as goal
 
 pub loop-rest-init : goal.loop-rest-init

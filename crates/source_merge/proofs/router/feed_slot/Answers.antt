@@ -5,7 +5,8 @@ use Rattle.std.proofs.Math.ListN.{set}
 use Rattle.source_merge.specs.Names.{Packet, SourceMachine, held_of, is_live, skipped_by}
 use Rattle.source_merge.specs.declared.slot.Slot.{Slot}
 use Rattle.source_merge.specs.Feeding.{MachineFed, RunFed}
-use Rattle.source_merge.specs.Routing.{AreReady, SlotFed, SlotPlace, source_machines}
+use Rattle.source_merge.specs.Routing.{AreReady, SlotFed, SlotPlace}
+use Rattle.recovering_machines.specs.Found.{source_machines}
 use Rattle.source_merge.proofs.Slots.{ready_at}
 use Rattle.source_machine.specs.declared.machine.SourceMachine.TheVariants.{Itm, Stp}
 use Rattle.source_merge.proofs.router.feed_slot.Goals as goal

@@ -40,7 +40,7 @@ returns g c =
     let last = c.cell-at.result in
     let event = raw_event x last.at bytes in
     given_as g.V.Receiver.gets g.V.Receiver.room (2 * length run) (c.args.items.now, (c.args.out.now, c.args.to.now))
-    (c.add_event.new.self, (c.give_raw.new.self, c.give_raw.new.to)) (event ∷ []) (told (Some x) (raw_events x run))
+    (c.add_event.new.items, (c.give_raw.new.self, c.give_raw.new.to)) (event ∷ []) (told (Some x) (raw_events x run))
     (ap (λ (l : List (What Packet × Place)). told (Some x) l)
     (ap (λ (n : ℕ). (Raw bytes, record { at = n; half = 0 }) ∷ [])
     (ap (λ (d : Cell). d.at) (c.cell-at.ensures ∙ ap (λ (n : ℕ). get_or run (n - 1) c.cell-at.result) c.len-count.ensures) ∙ last_is run c.cell-at.result c.requires.some)

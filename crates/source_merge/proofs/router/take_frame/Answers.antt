@@ -3,10 +3,10 @@ use Rattle.std.proofs.lemmas.List.{length-drop, length-take-le, take_all}
 use Rattle.std.proofs.lemmas.Bool.Decides.{nat_tests}
 use Rattle.source_merge.specs.Names.{Cell}
 use Rattle.source_merge.specs.Counting.{bytes_counted}
-use Rattle.source_merge.specs.Run.{cells_of}
+use Rattle.frame_runs.specs.Run.{cells_of}
 use Rattle.source_merge.specs.Stepping.{CountsFrame}
 use Rattle.source_merge.proofs.FrameCounting.{first_is}
-use Rattle.source_merge.proofs.Framing.{cut_first}
+use Rattle.frame_runs.proofs.FirstRuns.{cut_first}
 use Rattle.source_merge.proofs.FrameTaking.{IsTaken, SoFar, all_taken, none_taken, one_more, stopped}
 use Rattle.source_merge.proofs.Slots.{ready_more}
 use Rattle.source_merge.proofs.router.take_frame.Given as bound

@@ -1,8 +1,10 @@
 use Rattle.std.proofs.Common.{ℕ, ◌+◌, ◌-◌, ◌*◌, ◌<◌, ◌≤◌, [], length, subst, sym, arith, Some, None, Option}
 use Rattle.source_merge.specs.Names.{Fault, Packet, SourceKind, given_after, told, lifted, told_in}
-use Rattle.source_merge.specs.declared.counts.PerSource.{PerSource}
-use Rattle.source_merge.specs.Feeding.{MachineFed, MachineKind, PartFed}
-use Rattle.source_merge.proofs.FedRuns.{FedSoFar, begun, by_part, fed_all, fed_kept, fed_on, last_is, last_of, stopped}
+use Rattle.recovery_engine.specs.declared.per_source.PerSource.{PerSource}
+use Rattle.source_merge.specs.Feeding.{MachineFed, PartFed}
+use Rattle.recovering_machines.specs.Found.{MachineKind}
+use Rattle.source_merge.proofs.FedRuns.{FedSoFar, begun, by_part, fed_all, fed_kept, fed_on, stopped}
+use Rattle.recovering_machines.proofs.RunParts.{last_is, last_of}
 use Rattle.source_merge.proofs.Givings.{given_none, given_within}
 use Rattle.source_merge.proofs.slot.feed_run.Given as bound
 use Rattle.source_merge.proofs.slot.feed_run.Goals.{After-feed_slowly-bytes}

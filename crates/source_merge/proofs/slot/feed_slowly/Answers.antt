@@ -2,9 +2,11 @@ use Rattle.std.proofs.Common.{◌≡◌, ℕ, ◌+◌, ◌-◌, ◌*◌, ◌<◌
 use Rattle.std.specs.Prelude.{is_none}
 use Rattle.std.proofs.lemmas.List.{drop_more, take_more, take-append-drop, length-drop, length-take-le}
 use Rattle.source_merge.specs.Names.{Cell, Fault, Packet, given_by, given_after, item_at, told, lifted, placed_run, RisesFrom}
-use Rattle.source_merge.specs.Feeding.{IsEarlyFrom, MachineKind, PartFed}
+use Rattle.source_merge.specs.Feeding.{IsEarlyFrom, PartFed}
+use Rattle.recovering_machines.specs.Found.{MachineKind}
 use Rattle.source_merge.proofs.RunSteps.{goes_as, feeds_more, feeds_kept, grown_as}
-use Rattle.source_merge.proofs.Packets.{feeds_part, front, packet_parts, packet_bytes}
+use Rattle.source_merge.proofs.Packets.{feeds_part, packet_parts}
+use Rattle.recovering_machines.proofs.RunParts.{front, packet_bytes}
 use Rattle.source_merge.proofs.Early.{early}
 use Rattle.source_merge.proofs.Givings.{given_within}
 use Rattle.source_merge.proofs.ByParts.{FeedsBy}

@@ -2,7 +2,7 @@ use Rattle.std.proofs.Common.{◌≡◌, List, ◌∙◌, ap, subst, ℕ, Option
 use Rattle.source_merge.specs.Names.{Cell, Frame, cells, PlacedFrame, frame_places}
 use Rattle.frame_grammar.proofs.CellLaws.{few_cells}
 use Rattle.source_merge.specs.Giving.{GivesTo}
-use Rattle.source_merge.specs.Split.{split_cells}
+use Rattle.frame_runs.specs.Split.{split_cells}
 use Rattle.source_merge.specs.Stepping.{CountsStep, StepAt, TakesStep}
 use Rattle.source_merge.proofs.step.take_whole.Goals as goal
 

@@ -1,12 +1,12 @@
 use Rattle.std.proofs.Common.{◌≡◌, ◌+◌, ◌-◌, ◌≤◌, ◌∷◌, [], List, ℕ, ◌∙◌, ap, arith, get_or, length, refl, subst, sym}
 use Rattle.trace_values.specs.declared.cell.Cell.{Cell}
-use Rattle.source_merge.proofs.Packets.{last_parts}
+use Rattle.recovering_machines.proofs.RunParts.{last_parts}
 use Rattle.recovering_machines.specs.Mapped.{TakesMapped}
 use Rattle.recovering_machines.specs.Run.{between}
 use Rattle.recovering_machines.specs.declared.mapped.MappedSource.{MappedSource}
 use Rattle.recovering_machines.specs.Source.{with_byte}
 use Rattle.recovering_machines.proofs.Guessing.{same_source}
-use Rattle.recovering_machines.proofs.Mapping.{mapped_one}
+use Rattle.recovering_machines.proofs.Mapping.{mapped_one, mapped_sure}
 use Rattle.recovering_machines.proofs.Runs.{between_as}
 use Rattle.recovering_machines.proofs.mapped.MappedSource.take_byte.Goals as goal
 
@@ -29,9 +29,18 @@ returns g c =
     (c.args.out.now, c.args.to.now) (c.hear_answer.new.out, c.hear_answer.new.to)) (sym parts)
     (mapped_one g.V.Hearer.gets g.V.Hearer.room g.met.V.Hearer.adds_up.none g.met.V.Hearer.adds_up.more c.args.id old new
     (c.args.out.now, c.args.to.now) (c.hear_answer.new.out, c.hear_answer.new.to) cell c.follow-answer.result
-    c.requires.guesses refl fed.kind fed.reads fed.list
+    c.if-not-self.false refl fed.kind fed.reads fed.list
     (λ r start l k f. same_source guess old.sure sure (cell.at + 1) (with_byte old.sure r cell.at cell.byte) fed.kind
     fed.reads (c.follow-answer.ensures.follows old.sure r start l k (fed.step r k) f))
     (λ r start l k f. c.follow-answer.ensures.said old.sure r start l k (fed.step r k) f)
     (let s = fed.few in let n = c.follow-answer.ensures.few in omega (arith, s, n)) c.hear_answer.ensures.received
     c.hear_answer.ensures.room)
+
+pub returns-then-not-self : goal.returns-then-not-self
+returns-then-not-self g c =
+    let old = c.args.self.now in
+    let new : MappedSource = record { sure = c.take_one.new.source; guess = old.guess; guesses = old.guesses } in
+    mapped_sure g.V.Hearer.gets g.V.Hearer.room g.met.V.Hearer.adds_up.none g.met.V.Hearer.adds_up.more c.args.id old new
+    (c.args.out.now, c.args.to.now) (c.take_one.new.out, c.take_one.new.to)
+    (between c.args.index (c.args.index + 1) (g.R.Run.cells c.args.run.now)) c.if-not-self.true refl refl
+    c.take_one.ensures

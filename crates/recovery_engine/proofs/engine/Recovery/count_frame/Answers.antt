@@ -18,8 +18,8 @@ returns-clause-counts c =
     let none : self.slots.items ≡ [] = c.maps_none.ensures c.if-not-maps_none.false in
     let runs = runs_of (cells frame.bytes (frame_places frame) (id_of self.port)) in
     let seen = c.in-Some.ensures in
-    fronted unread (λ s. 0) frame c.size.result c.args.piece.now self new seen.here c.size.ensures seen.within
-    seen.is p.plan p.guesses p.count p.adds
+    fronted unread (λ s. 0) frame c.args.at c.size.result c.args.piece.now self new seen.here c.size.ensures seen.within
+    seen.is p.plan p.guesses p.next p.adds p.late
     (subst (λ (l : List RecoveringSlot). Takes unread (map Run runs) (l, tt) (new.slots.items, tt)) (sym none)
     (subst (λ (l : List RecoveringSlot). Takes unread (map Run runs) ([], tt) (l, tt))
     (sym (ap (λ s. s.items) p.slots ∙ none)) (all_unread runs))) (omega arith)

@@ -1,4 +1,4 @@
-use Rattle.std.proofs.Common.{◌∙◌, ℕ, ap, arith, cond}
+use Rattle.std.proofs.Common.{◌∙◌, ℕ, ap, cond}
 use Rattle.std.specs.Prelude.{◌==◌}
 use Rattle.recovery_report.specs.Port.{recovered}
 use Rattle.recovery_engine.proofs.PortCounts.{bare_is, framed_by}
@@ -13,12 +13,3 @@ pub returns-in-Hunt-clause-value : goal.returns-in-Hunt-clause-value
 returns-in-Hunt-clause-value c = λ u k.
     let frames = c.args.self.now.plan.frames in
     c.of.ensures.value (recovered frames u) (k.counted (framed_by frames c.in-Hunt.is))
-
-pub returns-in-Hunt-clause-few : goal.returns-in-Hunt-clause-few
-returns-in-Hunt-clause-few c = λ u k.
-    let self = c.args.self.now in
-    let r = recovered self.plan.frames u in
-    let counted = k.counted (framed_by self.plan.frames c.in-Hunt.is) in
-    let bytes = c.of.ensures.bytes r counted in
-    let items = c.of.ensures.items r counted in
-    let all = self.counted_few in (omega (arith, bytes, all), omega (arith, items, all))

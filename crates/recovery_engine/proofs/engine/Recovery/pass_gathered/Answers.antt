@@ -3,7 +3,6 @@ use Rattle.std.proofs.lemmas.List.{length-append}
 use Rattle.trace_values.specs.declared.cell.Cell.{Cell}
 use Rattle.trace_values.specs.Placed.{placed_from, units_of}
 use Rattle.trace_values.proofs.Placing.{length-placed_from}
-use Rattle.deformatter.specs.Rising.{BytesRise}
 use Rattle.frame_grammar.specs.Frame.{cells, id_after}
 use Rattle.frame_grammar.specs.Reading.{offsets_of}
 use Rattle.frame_grammar.specs.Whole.{without_halves}
@@ -15,19 +14,20 @@ use Rattle.recovery_report.specs.Port.{recovered}
 use Rattle.recovery_report.specs.Report.{Run, parts_in}
 use Rattle.recovery_engine.specs.Counting.{GrowsByFrame}
 use Rattle.recovery_engine.proofs.Blocks.{port_list}
-use Rattle.recovery_engine.proofs.Feeding.{rises_more}
-use Rattle.recovery_engine.proofs.WholeFrames.{frame_counts, frame_parts}
+use Rattle.recovery_engine.proofs.Feeding.{next_more, rises_more}
+use Rattle.recovery_engine.proofs.WholeFrames.{frame_counts, frame_late, frame_parts}
 use Rattle.recovery_engine.proofs.engine.Recovery.pass_gathered.Goals as goal
 
 pub invariant_of-self : goal.invariant_of-self
 invariant_of-self c =
     let self = c.args.self.now in
-    let size = c.size.ensures in
+    let size = c.size-bytes.ensures in
     record {
       port_few = (let p = self.port_few in let f = c.pass_frame.ensures.few in omega (arith, p, f, size));
       few = (let f = self.few in omega (arith, f, size));
       counted_few = (let f = self.counted_few in let t = c.add_frame-after.ensures.more in omega (arith, f, t, size));
-      limit = (let l = c.requires.limit in omega (arith, l, size));
+      within = (let w = self.within in let o = c.requires.offsets.0 in omega (arith, w, o, size));
+      limit = (let l = c.requires.offsets.1 in omega (arith, l, size));
     }
 
 pub returns : goal.returns
@@ -50,7 +50,8 @@ returns c =
       plan = refl;
       guesses = refl;
       slots = refl;
-      count = ap (λ (n : ℕ). self.count + n) c.size.ensures;
+      count = ap (λ (n : ℕ). self.count + n) c.size-bytes.ensures;
+      next = ap (λ (n : ℕ). at + n) c.size-bytes.ensures;
       adds = λ u w k q. record {
         port_is =
             port_list self.port c.pass_frame.new.self u at w plan.frames
@@ -66,14 +67,17 @@ returns c =
             (λ r s. c.pass_frame.ensures.passes r _ frame.halves at w s (q.whole.spelled at))
             plan.frames u c.requires.framed k.port)) (k.counted c.requires.framed);
         count_is = (let e = k.count in let l = length-append u (placed_from at w) in let p = length-placed_from at w in
-            let n = gathered w q in let s = c.size.ensures in omega (arith, e, l, p, n, s));
-        rising =
-            subst (λ (n : ℕ). BytesRise 0 (self.count + c.size.result) (u ++ placed_from n w)) (sym c.requires.here)
-            (rises_more u self.count c.size.result w (gathered w q ∙ sym c.size.ensures) k.rising);
+            let n = gathered w q in let s = c.size-bytes.ensures in omega (arith, e, l, p, n, s));
+        next_is = next_more u at c.size-bytes.result w (gathered w q ∙ sym c.size-bytes.ensures) (let s = c.size-bytes.ensures in omega (arith, s));
+        rising = rises_more u self.next at c.size-bytes.result w (gathered w q ∙ sym c.size-bytes.ensures) c.requires.offsets.0 k.rising;
         parts =
             frame_parts self.port at w (without_halves (placed_from at w)) frame.halves
             (λ r s. c.pass_frame.ensures.passes r _ frame.halves at w s (q.whole.spelled at))
             plan.frames u c.requires.framed k.port
             ∙ ap (λ (l : List Cell). parts_in (recovered plan.frames u) ++ map Run (runs_of l)) (same w q);
       };
+      late = λ u w k q.
+          frame_late self.port at w (without_halves (placed_from at w)) frame.halves
+          (λ r s. c.pass_frame.ensures.passes r _ frame.halves at w s (q.whole.spelled at))
+          plan.frames u c.requires.framed k.port;
     }

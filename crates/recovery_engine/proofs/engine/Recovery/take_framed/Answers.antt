@@ -3,7 +3,7 @@ use Rattle.std.specs.List.{refill}
 use Rattle.frame_grammar.specs.Frame.{cells}
 use Rattle.frame_runs.specs.Gathered.{frame_places}
 use Rattle.source_events.specs.Runs.{runs_of}
-use Rattle.source_merge.proofs.Refilled.{refilled}
+use Rattle.recovery_engine.proofs.Refilled.{refilled}
 use Rattle.recovering_machines.specs.Port.{id_of}
 use Rattle.recovery_report.specs.Report.{Part, Run}
 use Rattle.recovery_engine.specs.Slots.{total}
@@ -27,6 +27,7 @@ invariant_of-self g c =
           (let f = c.args.self.now.few in let t = c.take_whole.ensures.few in let n = c.pass_gathered.ensures.count in
           omega (arith, f, t, n, before));
       counted_few = passed.counted_few;
+      within = passed.within;
       limit = passed.limit;
     }
 
@@ -38,8 +39,8 @@ returns g c =
     let p = c.pass_gathered.ensures in
     let runs : Option ℕ → List Part = λ i. map Run (runs_of (cells frame.bytes (frame_places frame) i)) in
     let seen = c.in-Some.ensures in
-    fronted g.V.Hearer.gets g.V.Hearer.room frame c.size.result c.args.piece.now self _ seen.here c.size.ensures
-    seen.within seen.is p.plan p.guesses p.count p.adds
+    fronted g.V.Hearer.gets g.V.Hearer.room frame c.args.at c.size.result c.args.piece.now self _ seen.here c.size.ensures
+    seen.within seen.is p.plan p.guesses p.next p.adds p.late
     (subst (λ (l : List RecoveringSlot). Takes g.V.Hearer.gets (runs (id_of self.port))
     (l, (c.args.out.now, c.args.to.now)) (
       refill (length passed.slots.items) passed.slots.items c.take_whole.new.slots,

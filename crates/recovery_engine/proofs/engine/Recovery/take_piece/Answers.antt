@@ -8,18 +8,18 @@ use Rattle.trace_values.proofs.Placing.{length-placed_from}
 use Rattle.trace_values.specs.declared.reading_modes.FramesMode.{FramesMode}
 use Rattle.trace_values.specs.declared.reading_modes.FramesMode.TheVariants.{Bare}
 use Rattle.deformatter.specs.PortReading.{bare_cell}
-use Rattle.source_merge.specs.Piece.{bytes_in, piece_cells}
-use Rattle.source_merge.proofs.PieceCells.{bytes_length, piece_length}
-use Rattle.source_merge.proofs.Refilled.{refilled}
+use Rattle.frame_runs.specs.Piece.{bytes_in, piece_cells}
+use Rattle.frame_runs.proofs.PieceCells.{bytes_length, piece_length}
+use Rattle.recovery_engine.proofs.Refilled.{refilled}
 use Rattle.recovery_report.specs.Port.{recovered}
 use Rattle.recovery_report.specs.Report.{parts_in}
 use Rattle.recovery_report.specs.Words.{AreOf, singles}
 use Rattle.recovery_engine.specs.Port.{PortStands}
 use Rattle.recovery_engine.specs.Engine.{Stands}
-use Rattle.recovery_engine.specs.Front.{Adds}
+use Rattle.recovery_engine.specs.Front.{Adds, Kept}
 use Rattle.recovery_engine.specs.Slots.{total}
 use Rattle.recovery_engine.specs.declared.slot.RecoveringSlot.{RecoveringSlot}
-use Rattle.recovery_engine.proofs.Feeding.{bare_more, bare_of, piece_bare, rises_more}
+use Rattle.recovery_engine.proofs.Feeding.{bare_more, bare_of, next_more, piece_bare, rises_more}
 use Rattle.recovery_engine.proofs.Gathering.{report_after, stands_after, took}
 use Rattle.recovery_engine.proofs.engine.Recovery.take_piece.Goals as goal
 
@@ -35,9 +35,10 @@ take_each-requires-clause-few g c =
     let self = c.args.self.now in
     let size = piece_length c.args.run.now in
     let few = self.few in
-    let limit = c.requires.limit in
+    let before = self.within in
+    let offsets = c.requires.offsets in
     let same : total c.as_mut_slice.result.now ≡ total self.slots.items = ap total c.as_mut_slice.ensures.value in
-    omega (arith, size, few, limit, same)
+    omega (arith, size, few, before, offsets.0, offsets.1, same)
 
 pub take_each-requires-clause-room : goal.take_each-requires-clause-room
 take_each-requires-clause-room g c =
@@ -59,7 +60,8 @@ invariant_of-self g c =
       few = subst (λ (l : List RecoveringSlot). total l ≤ 90 * (self.count + run.count)) (sym all)
           (let f = self.few in let t = c.take_each.ensures.few in omega (arith, f, t, size, before));
       counted_few = (let f = self.counted_few in omega (arith, f));
-      limit = (let l = c.requires.limit in omega (arith, l));
+      within = (let w = self.within in let o = c.requires.offsets.0 in omega (arith, w, o));
+      limit = (let o = c.requires.offsets.1 in omega (arith, o));
     }
 
 pub returns : goal.returns
@@ -72,23 +74,27 @@ returns g c =
     let size = bytes_length run in
     let all_bytes : bytes ≡ bytes_in run = take_all run.count (bytes_in run) (omega (arith, size)) in
     let taken : length bytes ≡ run.count = ap length all_bytes ∙ size in
-    let at = self.count in
-    let here = c.requires.here in
+    let at = run.at in
     let w = placed_from at bytes in
     let cells_are : cells ≡ map bare_cell w =
     piece_bare run.at (bytes_in run)
-    ∙ ap (λ (b : List ℕ). map bare_cell (placed_from run.at b)) (sym all_bytes)
-    ∙ ap (λ (n : ℕ). map bare_cell (placed_from n bytes)) here in
+    ∙ ap (λ (b : List ℕ). map bare_cell (placed_from at b)) (sym all_bytes) in
     let bare = c.requires.bare in
     let takes = took g.V.Hearer.gets (singles cells) self.slots.items c.as_mut_slice.ensures.value
     c.take_each.ensures.len c.take_each.ensures.takes in
-    let adds : (u : List Placed) → Stands self u →
-    Adds self self.port self.totals (at + run.count) (singles cells) u (u ++ w) = λ u k. record {
+    let now : Kept = record {
+      port = self.port;
+      totals = self.totals;
+      count = self.count + run.count;
+      next = at + run.count;
+    } in
+    let adds : (u : List Placed) → Stands self u → Adds self now (singles cells) u (u ++ w) = λ u k. record {
       port_is = subst (λ (m : FramesMode). PortStands m self.port (u ++ w)) (sym bare) tt;
       counted = λ framed. absurd (framed bare);
       count_is = (let e = k.count in let l = length-append u w in let p = length-placed_from at bytes in
           omega (arith, e, l, p, taken));
-      rising = rises_more u at run.count bytes taken k.rising;
+      next_is = next_more u at run.count bytes taken c.requires.some;
+      rising = rises_more u self.next at run.count bytes taken c.requires.offsets.0 k.rising;
       parts = subst (λ (m : FramesMode). parts_in (recovered m (u ++ w)) ≡ parts_in (recovered m u) ++ singles cells)
           (sym bare) (bare_more w u ∙ ap (λ (l : List Cell). parts_in (recovered Bare u) ++ singles l) (sym cells_are));
     } in
@@ -96,13 +102,14 @@ returns g c =
       bytes = (c.requires.some, omega (arith, size));
       plan = refl;
       guesses = refl;
-      count = refl;
+      next = refl;
       list = λ u k.
           stands_after g.V.Hearer.gets self (singles cells) takes u (u ++ w) k _ refl refl refl (adds u k);
       given = (
         takes.0,
         takes.1,
-        λ u k. report_after g.V.Hearer.gets self (singles cells) takes u (u ++ w) k _ _ _ (adds u k),
+        λ u k. report_after g.V.Hearer.gets self (singles cells) takes u (u ++ w) k now (adds u k),
       );
+      late = λ framed. absurd (framed bare);
       room = (let a = c.take_each.ensures.room in let b = piece_length run in omega (arith, a, b));
     }

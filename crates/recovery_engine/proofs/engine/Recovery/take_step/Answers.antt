@@ -7,9 +7,9 @@ use Rattle.recovery_report.specs.Counts.{CountsGrow}
 use Rattle.recovery_report.specs.Port.{recovered}
 use Rattle.recovery_report.specs.Report.{Part, parts_in}
 use Rattle.recovery_engine.specs.Engine.{Stands}
-use Rattle.recovery_engine.specs.Front.{Adds}
-use Rattle.recovery_engine.proofs.Blocks.{framed_counts, framed_parts, port_list}
-use Rattle.recovery_engine.proofs.Feeding.{rises_more}
+use Rattle.recovery_engine.specs.Front.{Adds, Kept}
+use Rattle.recovery_engine.proofs.Blocks.{framed_counts, framed_late, framed_parts, port_list}
+use Rattle.recovery_engine.proofs.Feeding.{next_more, rises_more}
 use Rattle.recovery_engine.proofs.Gathering.{report_after, stands_after, took}
 use Rattle.recovery_engine.proofs.PortCounts.{recovered_runs}
 use Rattle.recovery_engine.proofs.engine.Recovery.take_step.Goals as goal
@@ -19,7 +19,7 @@ returns g c =
     let self = c.args.self.now in
     let plan = self.plan in
     let port = c.feed_block-taken in
-    let at = self.count in
+    let at = c.args.at in
     let bytes = take port.result.bytes c.args.piece.now in
     let w = placed_from at bytes in
     let size = length-take-le port.result.bytes c.args.piece.now port.ensures.bytes.1 in
@@ -27,8 +27,13 @@ returns g c =
     let more : List Part = parts_by 0 (at + (port.result.bytes - 1)) port.result.step cells in
     let takes = took g.V.Hearer.gets more self.slots.items c.as_mut_slice.ensures.value c.take_step.ensures.len
     c.take_step.ensures.takes in
-    let adds : (u : List Placed) → Stands self u →
-    Adds self port.new.self c.add_step.new.self (at + port.result.bytes) more u (u ++ w) = λ u k. record {
+    let now : Kept = record {
+      port = port.new.self;
+      totals = c.add_step.new.self;
+      count = self.count + port.result.bytes;
+      next = at + port.result.bytes;
+    } in
+    let adds : (u : List Placed) → Stands self u → Adds self now more u (u ++ w) = λ u k. record {
       port_is = port_list self.port port.new.self u at bytes plan.frames port.ensures.list k.port;
       counted = λ framed.
           c.add_step.ensures.counted (recovered plan.frames u) (recovered plan.frames (u ++ w))
@@ -39,7 +44,8 @@ returns g c =
           (recovered_runs plan.frames (u ++ w)) (k.counted framed);
       count_is = (let e = k.count in let l = length-append u w in let p = length-placed_from at bytes in
           omega (arith, e, l, p, size));
-      rising = rises_more u at port.result.bytes bytes size k.rising;
+      next_is = next_more u at port.result.bytes bytes size port.ensures.bytes.0;
+      rising = rises_more u self.next at port.result.bytes bytes size c.requires.offsets.0 k.rising;
       parts =
           framed_parts self.port at bytes port.result.step port.new.out.items port.ensures.fed port.ensures.cells
           plan.frames u port.result.bytes c.requires.framed size k.port
@@ -50,12 +56,14 @@ returns g c =
       bytes = port.ensures.bytes;
       plan = refl;
       guesses = refl;
-      count = refl;
+      next = refl;
       list = λ u k. stands_after g.V.Hearer.gets self more takes u (u ++ w) k _ refl refl refl (adds u k);
       given = (
         takes.0,
         takes.1,
-        λ u k. report_after g.V.Hearer.gets self more takes u (u ++ w) k _ _ _ (adds u k),
+        λ u k. report_after g.V.Hearer.gets self more takes u (u ++ w) k now (adds u k),
       );
+      late = λ m u k. framed_late self.port at bytes port.result.step port.new.out.items port.ensures.fed port.ensures.cells
+          plan.frames u m k.port;
       room = (let a = c.take_step.ensures.room in let b = port.ensures.bytes.0 in omega (arith, a, b));
     }

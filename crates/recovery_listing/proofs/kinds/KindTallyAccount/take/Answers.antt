@@ -11,9 +11,9 @@ pub returns-clause-on : goal.returns-clause-on
 returns-clause-on c =
     let old = c.args.self.now in
     let pages : Pages = record { text = c.args._outlet.now; notes = c.args._notes.now } in
-    takes_on counts.gets counts.room gets c.args.piece.now c.take-taken.result c.args.engine.now c.take-taken.new.self
-    (old.counts, tt) (c.take-taken.new.out, tt) (old, pages)
-    (_, pages) c.take-taken.ensures
+    takes_on counts.gets counts.room gets c.next-at.result c.args.piece.now c.take-taken.result c.args.engine.now
+    c.take-taken.new.self (old.counts, tt) (c.take-taken.new.out, tt) (old, pages) (_, pages) c.next-at.ensures.next
+    c.take-taken.ensures
     (λ es h. record { same = refl; counts = h; silent = refl })
 
 pub returns-clause-paid : goal.returns-clause-paid

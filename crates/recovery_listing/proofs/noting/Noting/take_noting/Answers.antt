@@ -10,11 +10,11 @@ returns-clause-on g c =
     let old = c.args.self.now in
     let mid = c.take-bytes.new.out in
     takes_on (λ a es b. NotingGets g.R.Receiver.gets a es b) (λ s. room g.R.Receiver.room s)
-    (NotesGets g.R.Receiver.gets) c.args.piece.now c.take-bytes.result c.args.engine.now c.take-bytes.new.self
-    (old, c.args.outlet.now) (mid, c.take-bytes.new.to)
+    (NotesGets g.R.Receiver.gets) c.next-at.result c.args.piece.now c.take-bytes.result c.args.engine.now
+    c.take-bytes.new.self (old, c.args.outlet.now) (mid, c.take-bytes.new.to)
     (old, record { text = c.args.outlet.now; notes = c.args.notes.now })
     (record mid { lines = c.swap.new.x }, record { text = c.take-bytes.new.to; notes = c.swap.new.y })
-    c.take-bytes.ensures
+    c.next-at.ensures.next c.take-bytes.ensures
     (λ es h. record {
       same = h.same;
       receiver = h.receiver;

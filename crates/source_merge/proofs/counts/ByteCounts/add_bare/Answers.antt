@@ -1,6 +1,6 @@
 use Rattle.std.proofs.Common.{ℕ, ◌+◌, cond, sym, ◌∙◌, ap, arith}
 use Rattle.std.specs.Prelude.{◌==◌}
-use Rattle.source_merge.specs.Counting.{number_of}
+use Rattle.recovery_engine.specs.PerSource.{number_of}
 use Rattle.source_merge.proofs.BareCounts.{bytes_more, none_more}
 use Rattle.source_merge.proofs.counts.ByteCounts.add_bare.Goals as goal
 

@@ -8,21 +8,23 @@ use Rattle.source_merge.specs.Names.{Stop, Packet, Plan, Mapped, runs_in, stop_o
 use Rattle.trace_values.proofs.Placing.{length-placed_from}
 use Rattle.source_merge.specs.declared.slot.Slot.{Slot}
 use Rattle.source_merge.specs.declared.engine.Engine.{Engine}
-use Rattle.source_merge.specs.declared.piece.PieceRun.{PieceRun}
+use Rattle.frame_runs.specs.declared.piece.PieceRun.{PieceRun}
 use Rattle.source_merge.specs.Engine.{Stands}
 use Rattle.source_merge.specs.Front.{IsBare, IsCertain}
 use Rattle.source_merge.specs.Answering.{fault_by, fault_of, flow_to, goes_on, port_of, report_of}
 use Rattle.source_merge.specs.Counting.{HasCounted}
-use Rattle.source_merge.specs.Piece.{bytes_in, piece_cells}
-use Rattle.source_merge.specs.Routing.{mapped_of, AllStand, AreReady, AreDistinct, SlotFed, SlotPlace}
+use Rattle.frame_runs.specs.Piece.{bytes_in, piece_cells}
+use Rattle.source_merge.specs.Routing.{mapped_of, AllStand, AreReady, SlotFed, SlotPlace}
+use Rattle.recovery_laws.specs.Distinct.{AreDistinct}
 use Rattle.source_merge.proofs.BareLists.{bare_port}
 use Rattle.source_merge.proofs.Ending.{FirstAt, first_at}
 use Rattle.source_merge.proofs.Growing.{Longer, longer, no_fault}
-use Rattle.source_merge.proofs.PieceCells.{bytes_length, piece_length}
+use Rattle.frame_runs.proofs.PieceCells.{bytes_length, piece_length}
 use Rattle.source_merge.proofs.PieceGoing.{Made, made_of}
 use Rattle.source_merge.proofs.Refilled.{ready_as, slots_are}
 use Rattle.source_merge.proofs.Slots.{ready_more}
-use Rattle.source_merge.proofs.Standing.{distinct, none_there, tested}
+use Rattle.source_merge.proofs.Standing.{none_there, tested}
+use Rattle.recovery_laws.proofs.Distinct.{distinct}
 use Rattle.source_merge.proofs.Taking.{same_mapped, ready_on}
 use Rattle.source_merge.proofs.engine.Engine.take_piece.Given as bound
 use Rattle.source_merge.proofs.engine.Engine.take_piece.Goals as goal

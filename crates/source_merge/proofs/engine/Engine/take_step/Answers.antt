@@ -8,9 +8,11 @@ use Rattle.deformatter.specs.declared.step.PortStep.TheVariants.{Quiet}
 use Rattle.source_merge.specs.declared.slot.Slot.{Slot}
 use Rattle.source_merge.specs.Engine.{Stands}
 use Rattle.source_merge.specs.Answering.{fault_of, flow_to, port_of}
-use Rattle.source_merge.specs.Routing.{AllStand, AreDistinct}
+use Rattle.source_merge.specs.Routing.{AllStand}
+use Rattle.recovery_laws.specs.Distinct.{AreDistinct}
 use Rattle.source_merge.specs.Stepping.{CountsStep, StepAt, TakesStep}
-use Rattle.source_merge.proofs.Standing.{distinct, none_there, tested, none_of}
+use Rattle.source_merge.proofs.Standing.{none_there, tested, none_of}
+use Rattle.recovery_laws.proofs.Distinct.{distinct}
 use Rattle.source_merge.proofs.Going.{Stepped, stepped, quiet_inside}
 use Rattle.source_merge.proofs.Growing.{Longer, frame_ready, longer}
 use Rattle.source_merge.proofs.Refilled.{ready_after, same_after, written}

@@ -1,8 +1,10 @@
 use Rattle.std.proofs.Common.{◌^◌, List, refl, sym, ap, subst, arith, length, None, Some}
 use Rattle.source_merge.specs.Names.{Cell}
-use Rattle.source_merge.specs.Split.{left_cells, run_in, split_cells}
+use Rattle.frame_runs.specs.declared.split.SplitFrame.{SplitFrame}
+use Rattle.source_merge.specs.Stepping.{CountsFrame}
+use Rattle.frame_runs.specs.Split.{left_cells, run_in, split_cells}
 use Rattle.source_merge.proofs.FrameTaking.{IsTaken, SoFar, all_taken, none_taken, one_more, stopped}
-use Rattle.source_merge.proofs.Parts.{first_run}
+use Rattle.frame_runs.proofs.Parts.{first_run}
 use Rattle.source_merge.proofs.Slots.{ready_more}
 use Rattle.source_merge.proofs.split.SplitFrameFrameCells.take.Given as bound
 use Rattle.source_merge.proofs.split.SplitFrameFrameCells.take.Goals as goal
@@ -47,7 +49,8 @@ count_left-requires-clause-room g c =
     let all = c.requires.size in
     let l = c.len.ensures in
     let m = c.add_run.ensures.more in
-    omega (arith, t, n, few, all, l, m)
+    let same = ap (λ (s : SplitFrame). length (left_cells s c.next_run.new.left)) c.copied.ensures in
+    omega (arith, t, n, few, all, l, m, same)
 
 pub add_run-requires-clause-some : goal.add_run-requires-clause-some
 add_run-requires-clause-some g c = let s = c.source-id.ensures.some in let l = c.len.ensures in omega (arith, s, l)
@@ -80,7 +83,8 @@ taken_to g c =
     (c.loop-run.items, (c.loop-run.out, c.loop-run.to)) (c.take_run.new.items, (c.take_run.new.out, c.take_run.new.to)) i
     c.take_run.result c.take_run.ensures.slots c.take_run.ensures.took g.met.V.Receiver.adds_up.more c.in-Some-take_run.stop c.in-Some-take_run.is (2 ^ 58)
     c.requires.ready.slots_are (λ whole runs h. c.add_run.ensures.counted whole runs run c.source-id.ensures.own (sym c.len.ensures) h)
-    (let l = c.len.ensures in let d = c.add_run.ensures.more in omega (arith, l, d)) c.count_left.new.counts c.count_left.ensures
+    (let l = c.len.ensures in let d = c.add_run.ensures.more in omega (arith, l, d)) c.count_left.new.counts
+    (subst (λ (s : SplitFrame). CountsFrame c.add_run.new.self c.count_left.new.counts (left_cells s c.next_run.new.left)) c.copied.ensures c.count_left.ensures)
 
 pub returns-in-Some-take_run : goal.returns-in-Some-take_run
 returns-in-Some-take_run g c = let k = taken_to g c in record { slots = k.slots_are; fed = k.fed; counts = k.counts_are }

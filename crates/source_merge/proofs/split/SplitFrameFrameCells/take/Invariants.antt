@@ -1,5 +1,5 @@
 use Rattle.std.proofs.Common.{length}
-use Rattle.source_merge.specs.Split.{IsLeft, left_cells, split_cells}
+use Rattle.frame_runs.specs.Split.{IsLeft, left_cells, split_cells}
 use Rattle.source_merge.proofs.FrameTaking.{SoFar}
 use Rattle.source_merge.proofs.split.SplitFrameFrameCells.take.Given as goal
 
