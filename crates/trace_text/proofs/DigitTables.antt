@@ -1,7 +1,6 @@
 -- The tables hold the digits of their numbers.
 use Rattle.std.proofs.Common.{◌≡◌, ℕ, ◌+◌, ◌*◌, ◌<◌, ◌≤◌, List, [], ◌∷◌, ◌++◌, take, drop, Bool, true, false, refl, sym, ◌∙◌, ap, arith}
 use Rattle.std.specs.Prelude.{◌/◌, ◌%◌, codes, decimal}
-use Rattle.hex.specs.Hex.{encode_with, encode_lower}
 use Rattle.std.proofs.lemmas.Bool.Decides.{nat_tests}
 use Rattle.std.proofs.lemmas.Fmt.{decimal_digit}
 use Rattle.itoa.proofs.Decimal.{decimal_two, decimal_pair}
@@ -11,7 +10,7 @@ use Rattle.std.proofs.lemmas.Slice.Eq.{bytes_eq-Decides}
 use Rattle.stp_grammar.proofs.Tables.{under, below}
 use lib.Dec.{leb}
 use mir.Val.{bool_byte}
-use Rattle.trace_text.specs.declared.tables.TheConstants.{HEX_PAIRS, NUMBERS, PAIRS, PORTS}
+use Rattle.trace_text.specs.declared.tables.TheConstants.{NUMBERS, PAIRS, PORTS}
 
 -- the same bytes, where a test says so
 pub same_bytes : (xs ys : List ℕ) → bytes_eq xs ys ≡ true → xs ≡ ys
@@ -73,7 +72,3 @@ pub port : (n : ℕ) → n < 32 →
 port n l =
     let small : leb 100 n ≡ false = grind (arith, nat_tests) in
     tabled_port n l ∙ ap (λ (ds : List ℕ). codes "port " ++ (ds ++ codes " ")) (are_digits n (leb 10 n) false refl small (omega arith))
-
-pub hex_pairs : (n : ℕ) → n < 256 → take 2 (drop (2 * n) HEX_PAIRS.now) ≡ encode_lower (n ∷ [])
-unfolding under encode_with
-hex_pairs n l = same_bytes _ _ (below (λ k. bytes_eq (take 2 (drop (2 * k) HEX_PAIRS.now)) (encode_lower (k ∷ []))) 256 n l refl)

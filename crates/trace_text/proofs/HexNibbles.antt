@@ -1,5 +1,5 @@
 -- The hexadecimal digits of bytes are those of their nibbles.
-use Rattle.std.proofs.Common.{◌≡◌, ℕ, zero, suc, ◌+◌, ◌-◌, ◌*◌, ◌/◌, ◌%◌, ◌^◌, ◌<◌, ◌≤◌, List, [], ◌∷◌, ◌++◌, length, get_or, take, refl, sym, ◌∙◌, ap, arith}
+use Rattle.std.proofs.Common.{◌≡◌, ℕ, zero, suc, ◌+◌, ◌-◌, ◌*◌, ◌/◌, ◌%◌, ◌^◌, ◌<◌, ◌≤◌, List, [], ◌∷◌, take, refl, sym, ◌∙◌, ap, arith}
 use Rattle.std.specs.Prelude.{slice_index}
 use Rattle.std.specs.Int.{bytes_high_first, byte_at}
 use Rattle.std.proofs.Math.Nat.{div-div-eq-div-mul, mul-div-mul_right, mod-eq_of_lt, pow-zero, pow-suc}
@@ -95,22 +95,3 @@ front_digits (suc n) [] = ap (λ k. take k (encode_lower [])) (let e : 2 * suc n
 front_digits (suc n) (b ∷ bytes) =
     ap (λ k. take k (encode_lower (b ∷ bytes))) (let e : 2 * suc n ≡ suc (suc (2 * n)) = omega arith in e)
     ∙ ap (λ ds. slice_index lower_digits (b / 16) ∷ slice_index lower_digits (b % 16) ∷ ds) (front_digits n bytes)
-
--- the digits of four bytes, one after the other
-pub digits_of_four : (bytes : List ℕ) → length bytes ≡ 4 →
-    ((encode_lower (get_or bytes 0 0 ∷ []) ++ encode_lower (get_or bytes 1 0 ∷ [])) ++ encode_lower (get_or bytes 2 0 ∷ []))
-    ++ encode_lower (get_or bytes 3 0 ∷ []) ≡ encode_lower bytes
-unfolding encode_with
-digits_of_four (a ∷ (b ∷ (c ∷ (d ∷ [])))) e = refl
-digits_of_four bytes e = absurd (omega arith)
-
--- no bytes, and one byte more
-pub encode_none : encode_lower [] ≡ []
-unfolding encode_with
-encode_none = refl
-
-pub encode_push : (bytes : List ℕ) (byte : ℕ) → encode_lower (bytes ++ byte ∷ []) ≡ encode_lower bytes ++ encode_lower (byte ∷ [])
-unfolding encode_with
-encode_push [] byte = refl
-encode_push (b ∷ bytes) byte =
-    ap (λ (l : List ℕ). slice_index lower_digits (b / 16) ∷ slice_index lower_digits (b % 16) ∷ l) (encode_push bytes byte)

@@ -9,9 +9,7 @@ ghost use Rattle.itm_grammar.specs.Spelling.{byte_count};
 ghost use Rattle.trace_text.specs.Values.{bytes_of_value, value_text, width_text};
 ghost use Rattle.trace_text.specs.Puts.{Puts, PutsAll};
 
-use crate::tables::{
-    HEX_PAIRS, NUMBERS, PAIRS, PORTS, VALUE_LENS, VALUE_SHIFTS, WIDTH_LENS, WIDTHS,
-};
+use crate::tables::{NUMBERS, PAIRS, PORTS, VALUE_LENS, VALUE_SHIFTS, WIDTH_LENS, WIDTHS};
 use itm_grammar::packet::Size;
 
 /// Bytes that a number or a value is given: more than any has.
@@ -250,26 +248,15 @@ pub(crate) fn put_medium(room: &mut [u8], from: usize, number: u16) -> usize
     put_four(room, from, number % 10_000)
 }
 
-/// Puts bytes in hexadecimal, two digits each. Where it is a constant how many they are, no branch depends on it.
+/// Puts bytes in hexadecimal, two digits each.
 #[inline(always)]
 pub(crate) fn put_digits(room: &mut [u8], from: usize, bytes: &[u8]) -> usize
     requires { from + 2 * length bytes.now ≤ length room.old }
     ensures { PutsAll room.old room.new from result (2 * length bytes.now) (encode_lower bytes.now) }
 {
-    let mut end = from;
-    for index in 0..bytes.len() {
-        end = put_hex_pair(room, end, bytes[index]);
-    }
+    let end = from + 2 * bytes.len();
+    let _ = hex::encode_to_slice(bytes, &mut room[from..end]);
     end
-}
-
-/// Puts the two hexadecimal digits of a byte.
-#[inline(always)]
-fn put_hex_pair(room: &mut [u8], from: usize, byte: u8) -> usize
-    requires room { from + 2 ≤ length room.old }
-    ensures { PutsAll room.old room.new from result 2 (encode_lower (byte ∷ [])) }
-{
-    put_entry(room, from, HEX_PAIRS, 2, byte as usize, 2)
 }
 
 /// Puts the hexadecimal digits of the first `count` of four bytes. No branch depends on how many they are.
@@ -279,10 +266,7 @@ fn put_hex_front(room: &mut [u8], from: usize, bytes: &[u8; 4], count: usize) ->
     requires room { from + 8 ≤ length room.old }
     ensures { PutsAll room.old room.new from result (2 * count) (encode_lower (take count bytes.now)) }
 {
-    let end = put_hex_pair(room, from, bytes[0]);
-    let end = put_hex_pair(room, end, bytes[1]);
-    let end = put_hex_pair(room, end, bytes[2]);
-    let _all = put_hex_pair(room, end, bytes[3]);
+    let _all = put_digits(room, from, bytes);
     from + 2 * count
 }
 

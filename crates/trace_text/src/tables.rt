@@ -30,16 +30,6 @@ pub(crate) const PORTS: &[u8] = b"\
     port 20 port 21 port 22 port 23 port 24 port 25 port 26 port 27 port 28 port 29 \
     port 30 port 31 ";
 
-/// The two hexadecimal digits of each byte: those of n at 2n.
-pub(crate) const HEX_PAIRS: &[u8] = b"\
-    000102030405060708090a0b0c0d0e0f101112131415161718191a1b1c1d1e1f2021222324252627\
-    28292a2b2c2d2e2f303132333435363738393a3b3c3d3e3f404142434445464748494a4b4c4d4e4f\
-    505152535455565758595a5b5c5d5e5f606162636465666768696a6b6c6d6e6f7071727374757677\
-    78797a7b7c7d7e7f808182838485868788898a8b8c8d8e8f909192939495969798999a9b9c9d9e9f\
-    a0a1a2a3a4a5a6a7a8a9aaabacadaeafb0b1b2b3b4b5b6b7b8b9babbbcbdbebfc0c1c2c3c4c5c6c7\
-    c8c9cacbcccdcecfd0d1d2d3d4d5d6d7d8d9dadbdcdddedfe0e1e2e3e4e5e6e7e8e9eaebecedeeef\
-    f0f1f2f3f4f5f6f7f8f9fafbfcfdfeff";
-
 /// The word of each width with a space after it, in four bytes: of one byte, of two, and of four. The bytes after it
 /// are of no account.
 pub(crate) const WIDTHS: &[u8] = b"u8  u16 u32 ";
