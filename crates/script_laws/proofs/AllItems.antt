@@ -11,7 +11,7 @@ use Rattle.script_laws.proofs.Fitting.{itm_checked, dwt_checked, stp_checked, ra
 use Rattle.script_laws.proofs.Items.{words_of, shape_of, itm_shape, dwt_shape, stp_shape, itm_values, dwt_values}
 use Rattle.script_laws.proofs.Items.{stp_values, itm_fit, dwt_fit, stp_fit, itm_made, dwt_made, stp_made, itm_back}
 use Rattle.script_laws.proofs.Items.{dwt_back, stp_back}
-use Rattle.script_text.proofs.Joining.{are_all}
+use Rattle.script_laws.proofs.Joining.{are_all}
 
 pub words_all : (item : Item) → IsSayable item → are_all (words_of item) ≡ true
 words_all (Itm p) h = row_all (itm_row (itm_shape p)) (itm_values p) (itm_checked (itm_shape p)).0 (itm_fit p h.0)

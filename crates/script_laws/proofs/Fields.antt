@@ -23,7 +23,7 @@ use Rattle.script_text.proofs.Fields.{values_fit}
 use Rattle.script_text.proofs.Options.{bind_some, some_of, map_some}
 use Rattle.script_laws.specs.Lowered.{lowered}
 use Rattle.script_laws.proofs.Digits.{digits_length, digits_hexadecimal, digits_say, digit_hexadecimal}
-use Rattle.script_text.proofs.Joining.{are_all, decimal_word, word_graphic, graphic_word, digits_graphic}
+use Rattle.script_laws.proofs.Joining.{are_all, decimal_word, word_graphic, graphic_word, digits_graphic}
 use Rattle.script_laws.proofs.Lowering.{number_lowered, hexadecimal_lowered, stamp_lowered, bytes_lowered}
 
 -- the numbers of a kind are some that a word can say, and a fixed word is one in lower case

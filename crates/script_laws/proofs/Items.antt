@@ -19,7 +19,7 @@ use Rattle.script_text.specs.declared.shapes.Shape.TheVariants as shapes
 use Rattle.script_text.specs.declared.itm_shapes.ItmShape.TheVariants as itm_shapes
 use Rattle.script_text.specs.declared.dwt_shapes.DwtShape.TheVariants as dwt_shapes
 use Rattle.script_text.specs.declared.stp_shapes.StpShape.TheVariants as stp_shapes
-use Rattle.script_text.proofs.Joining.{joined}
+use Rattle.script_laws.proofs.Joining.{joined}
 use Rattle.std.specs.Option.{ForSome}
 use Rattle.std.proofs.lemmas.Bool.Decides.{nat_tests}
 use Rattle.std.proofs.lemmas.Fmt.{decimal_digit}

@@ -1,3 +1,4 @@
+mod Joining
 mod Digits
 mod Lowering
 mod Fields

@@ -8,7 +8,7 @@ use Rattle.script_laws.specs.Names.{are_words, shape_named, item_of, line_of_wor
 use Rattle.script_laws.specs.Names.{IsSayable}
 use Rattle.script_text.proofs.LineRanges.{words_are, item_said}
 use Rattle.script_laws.specs.Lowered.{lowered}
-use Rattle.script_text.proofs.Joining.{joined}
+use Rattle.script_laws.proofs.Joining.{joined}
 use Rattle.script_laws.proofs.Items.{words_of}
 use Rattle.script_laws.proofs.Fitting.{shape_fits, word_of_shape}
 use Rattle.script_laws.proofs.Lowering.{number_lowered}

@@ -1,21 +1,26 @@
 -- The text of an item reads back as that item.
 use Rattle.std.proofs.Common.{◌≡◌, ℕ, ◌<◌, ◌≤◌, ◌^◌, List, [], ◌∷◌, ◌++◌, length, length-append, refl, sym, ◌∙◌, ap}
-use Rattle.std.proofs.Common.{arith, true, Some, subst, decimal, codes}
+use Rattle.std.proofs.Common.{arith, true, false, Option, Some, subst, decimal, codes, ◌==◌, nat_lt, ok_or}
+use Rattle.std.specs.Char.{digit_value}
+use Rattle.std.specs.Str.Parse.{AllDigits}
+use Rattle.std.proofs.lemmas.Bool.Decides.{nat_tests}
 use Rattle.std.proofs.lemmas.Fmt.{length-decimal-le}
 use Rattle.hex.specs.Hex.{encode_lower, lower_digits}
 use Rattle.hex.proofs.HexLemmas.{length-encode_with}
 use Rattle.script_laws.specs.Names.{DwtItem, IsProperItem as IsProperStp, StpItem, Plan, kind_of, Event, Packet}
 use Rattle.script_laws.specs.Names.{hardware_text, stp_text, Item, Itm, Dwt, Stp, Raw, taken_by, line_of, text_of}
-use Rattle.script_laws.specs.Names.{IsSayable}
+use Rattle.script_laws.specs.Names.{IsSayable, Shape, BadId, BadLine, BadNumber, number_named, is_nothing}
+use Rattle.script_laws.specs.Names.{are_printable, are_words, words_in, shape_named, item_of, line_of_words}
 use Rattle.itm_grammar.specs.declared.packet.ItmPacket.TheVariants as itm
 use Rattle.dwt_packets.specs.Packet.{IsProperItem}
 use Rattle.source_events.specs.declared.event.What.TheVariants.{Packet as Said}
 use Rattle.source_events.specs.declared.packet.Packet.TheVariants as packets
 use Rattle.trace_text.specs.declared.remark.Remark.TheVariants.{None as NoRemark}
 use Rattle.trace_text.proofs.LongestLines.{item as item_short, event as event_short}
-use Rattle.script_text.specs.Quick.{BeginsWithNumber, SaysItem}
-use Rattle.script_text.proofs.PacketLines.{joined_says, item_of_line, line_says}
-use Rattle.script_text.proofs.Joining.{joined, decimal_word, word_graphic}
+use Rattle.decimal_words.proofs.Numbers.{decimal_digits, decimal_has, names_number}
+use Rattle.script_text.specs.Lines.{◌>>=◌}
+use Rattle.script_text.proofs.Hexadecimals.{both}
+use Rattle.script_laws.proofs.Joining.{are_all, joined, decimal_word, words_joined, printable_joined, enough_room}
 use Rattle.script_laws.proofs.Items.{words_of, shape_of, text_joined}
 use Rattle.script_laws.proofs.AllItems.{words_all, few_words, named, item_reads}
 
@@ -58,18 +63,48 @@ pub whole_text : (id : ℕ) (item : Item) → IsSayable item → decimal id ++ (
 whole_text id item say =
     ap (λ (l : List ℕ). decimal id ++ (32 ∷ l)) (text_joined item say) ∙ sym (joined_more (decimal id) (words_of item) (few_words item).0)
 
+-- a line that begins with a decimal is no remark
+other_than_remark : (c : ℕ) → digit_value c < 10 → (c == 35) ≡ false
+other_than_remark c h = grind (arith, nat_tests)
+
+no_remark : (word rest : List ℕ) → AllDigits 10 word → 0 < length word → is_nothing (word ++ rest) ≡ false
+no_remark [] rest h l = absurd (omega arith)
+no_remark (c ∷ word) rest h l = other_than_remark c h.0
+
+-- what words after an ID say, by their shape and item
+words_say : (plan : Plan) (id : List ℕ) (words : List (List ℕ)) (shape : Shape) (item : Item) →
+    shape_named words ≡ Some shape → item_of shape words ≡ Some item →
+    line_of_words plan (id ∷ words) ≡ (ok_or (number_named 1 126 id) BadId >>= λ n. taken_by (kind_of plan n) n item)
+unfolding line_of_words
+words_say plan id words shape item e f =
+    ap (λ (o : Option Shape). ok_or o BadLine >>= λ shape. ok_or (number_named 1 126 id) BadId >>= λ n.
+    ok_or (item_of shape words) BadNumber >>= λ item. taken_by (kind_of plan n) n item) e
+    ∙ ap (λ (o : Option Item). ok_or (number_named 1 126 id) BadId >>= λ n. ok_or o BadNumber >>= λ item.
+    taken_by (kind_of plan n) n item) f
+
+-- a line of words says what these say
+line_says : (plan : Plan) (line : List ℕ) → length line ≤ 256 → is_nothing line ≡ false → are_printable line ≡ true →
+    are_words 0 (words_in line) ≡ true → line_of plan line ≡ line_of_words plan (words_in line)
+unfolding line_of
+line_says plan line few some printable words =
+    let short : nat_lt 256 (length line) ≡ false = grind (arith, nat_tests) in rw (short, some, printable, words) refl
+
 -- the line of an item, under a source's number, is that item, where the source is one for it
 pub text_reads : (plan : Plan) (id : ℕ) (item : Item) → 1 ≤ id → id ≤ 126 → IsSayable item →
     line_of plan (decimal id ++ (32 ∷ text_of item)) ≡ taken_by (kind_of plan id) id item
 text_reads plan id item low high say =
+    let line = decimal id ++ (32 ∷ text_of item) in
+    let words = decimal id ∷ words_of item in
     let small : id < 2 ^ 64 = omega arith in
-    let begins : BeginsWithNumber (decimal id ++ (32 ∷ text_of item)) id (text_of item) =
-    record { all = refl; graphic = word_graphic (decimal id) (decimal_word id small) } in
-    let few = few_words item in
-    let says = subst (λ (l : List ℕ). SaysItem l item) (sym (text_joined item say))
-    (joined_says (words_of item) (shape_of item) item few.0 few.1 (words_all item say) (named item)
-    (item_reads item say)) in
     let short = line_short id item high say in
-    line_says plan (decimal id ++ (32 ∷ text_of item)) id item (taken_by (kind_of plan id) id item) (omega arith)
-    (item_of_line (decimal id ++ (32 ∷ text_of item)) (text_of item) id id item (refl, low, high) begins says)
-    refl
+    let few = few_words item in
+    let some = no_remark (decimal id) (32 ∷ text_of item) (decimal_digits id small) (decimal_has id (decimal id) small refl).0 in
+    let all : are_all words ≡ true = both _ _ (decimal_word id small) (words_all item say) in
+    let is = whole_text id item say in
+    let said = ap words_in is ∙ words_joined (decimal id) (words_of item) all in
+    line_says plan line (omega arith) some (ap are_printable is ∙ printable_joined (decimal id) (words_of item) all)
+    (ap (are_words 0) said ∙ enough_room 0 words all (omega arith))
+    ∙ ap (line_of_words plan) said
+    ∙ words_say plan (decimal id) (words_of item) (shape_of item) item (named item) (item_reads item say)
+    ∙ ap (λ (o : Option ℕ). ok_or o BadId >>= λ n. taken_by (kind_of plan n) n item)
+    (names_number 1 126 id (decimal id) (omega arith) low high refl)

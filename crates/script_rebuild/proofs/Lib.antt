@@ -6,7 +6,6 @@ pub mod RoutedSteps
 pub mod Taking
 pub mod Sources
 pub mod Whole
-pub mod FirstLines
 pub mod Standing
 pub mod InOrder
 pub mod EachEncoder

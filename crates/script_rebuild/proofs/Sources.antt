@@ -1,15 +1,13 @@
 -- What a text says in each version, and the sources of a plan.
-use Rattle.std.proofs.Common.{Option, Some, ◌≡◌, ℕ, ◌≤◌, List, [], ◌∷◌, ◌++◌, refl, sym, ◌∙◌, ap, subst, Bool, true}
-use Rattle.std.proofs.Common.{false, Result, Ok, Err, length, IfSome, None, ◌==◌, if◌then◌else◌}
+use Rattle.std.proofs.Common.{Option, Some, ◌≡◌, ℕ, List, [], ◌∷◌, ◌++◌, refl, sym, ◌∙◌, ap, subst, Bool, true}
+use Rattle.std.proofs.Common.{false, Result, Ok, Err, None, ◌==◌, if◌then◌else◌}
 use Rattle.std.specs.List.{list_any}
-use Rattle.script_rebuild.specs.Names.{Order, StpItem, Plan, kind_of, Line, Nothing, Of, LineFault, Line2, One}
-use Rattle.script_rebuild.specs.Names.{PacketLine, IsPacketOf, IsSaid, line_of, as_one, Turns}
+use Rattle.script_rebuild.specs.Names.{Order, StpItem, Plan, Line, Nothing, Of, LineFault, Line2, One}
+use Rattle.script_rebuild.specs.Names.{IsSaid, line_of, as_one, Turns}
 use Rattle.script_text.specs.Lines.{taken_by}
-use Rattle.source_events.specs.declared.plan.SourceKind.{SourceKind}
 use Rattle.source_events.specs.declared.plan.SourceKind.TheVariants as kinds
 use Rattle.script_text.specs.declared.items.Item.TheVariants as items
 use Rattle.script_text.specs.Lines.{◌>>=◌}
-use Rattle.script_text.proofs.PacketLines.{line_says, item_is_said}
 use Rattle.script_text.proofs.NewLines.{same_line}
 use Rattle.script_rebuild.specs.declared.version.Version.{Version}
 use Rattle.script_rebuild.specs.declared.version.Version.TheVariants.{Unknown, First, Second}
@@ -68,20 +66,6 @@ module _ (p : RebuildPlan) (version : Version) (text : List ℕ) (w new : LineWr
   fits_said (Ok done) told = ((line, said_as (Ok done) told), tt)
   fits_said (Err fault) told = (tt, said_as (Err fault) told)
 
--- a line that says a packet, where its source is one of packets
-module _ (plan : Plan) (text : List ℕ) (found : PacketLine) (says : IsPacketOf text found.id found.packet) (kind : kind_of plan found.id ≡ Some kinds.Itm) where
-  abbrev line : Line
-  line = Of found.id (items.Itm found.packet)
-
-  taken : taken_by (kind_of plan found.id) found.id (items.Itm found.packet) ≡ Ok line
-  taken = ap (λ (k : Option SourceKind). taken_by k found.id (items.Itm found.packet)) kind
-
-  pub packet_read : length text ≤ 256 → line_of plan text ≡ Ok line
-  packet_read few = line_says plan text found.id (items.Itm found.packet) (Ok line) few says taken
-
-  pub packet_said : IsSaid plan line
-  packet_said = item_is_said plan text found.id (items.Itm found.packet) (Ok tt) line says taken
-
 -- what a line of the plan says can be put where its sources of system traces are in order
 of_kind : (plan : Plan) (id : ℕ) (item : StpItem) (a b : Bool) → list_any (λ y. y == id) plan.stp ≡ b →
     taken_by (if a then Some kinds.Itm else if b then Some kinds.Stp else None) id (items.Stp item) ≡ Ok (Of id (items.Stp item)) →
@@ -102,7 +86,3 @@ can_be_put plan (Of id (items.Stp item)) h = (
   in_order_among plan.stp id h.0 h.1
       ∙ of_kind plan id item (list_any (λ y. y == id) plan.itm) (list_any (λ y. y == id) plan.stp) refl h.3,
 )
-
--- what is known of a value that is there
-pub there : {A : Type 0} (P : A → Type 0) (o : Option A) (x : A) → o ≡ Some x → IfSome o P → P x
-there P o x e h = subst (λ o. IfSome o P) e h

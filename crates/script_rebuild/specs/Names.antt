@@ -11,7 +11,6 @@ pub use Rattle.port_formatter.specs.Segments.{Segments, after_flush, no_segments
 pub use Rattle.port_formatter.specs.declared.formatter.Formatter.{Formatter}
 pub use Rattle.script_text.specs.Lines.{answer}
 unfoldable pub use Rattle.script_text.specs.Lines.{line_of, line_of_words}
-pub use Rattle.script_text.specs.Quick.{IsFirstLine, IsPacketOf}
 pub use Rattle.script_text.specs.Said.{IsSaid, IsSayable}
 pub use Rattle.script_text.specs.VersionTwo.{as_one}
 unfoldable pub use Rattle.script_text.specs.VersionTwo.{line2_of}
@@ -21,7 +20,6 @@ pub use Rattle.script_text.specs.declared.line_fault.LineFault.{LineFault}
 pub use Rattle.script_text.specs.declared.line_fault.LineFault.TheVariants.{BadLine, LongLine, Unfit, Unrouted}
 pub use Rattle.script_text.specs.declared.lines.Line.{Line}
 pub use Rattle.script_text.specs.declared.lines.Line.TheVariants.{Nothing, Of}
-pub use Rattle.script_text.specs.declared.quick.PacketLine.{PacketLine}
 pub use Rattle.script_text.specs.declared.version_two.Line2.{Line2}
 pub use Rattle.script_text.specs.declared.version_two.Line2.TheVariants.{Flush, One, Trigger}
 pub use Rattle.source_events.specs.Plan.{are_sound, kind_of}

@@ -1,7 +1,7 @@
--- What the putting of a line does, and what is known of a line's text.
-use Rattle.std.specs.Prelude.{◌≡◌, ◌≤◌, ℕ, List, [], ◌∷◌, ◌++◌, length, Option, IfSome, Result, Ok, Err}
+-- What the putting of a line does.
+use Rattle.std.specs.Prelude.{◌≡◌, ℕ, List, [], ◌∷◌, ◌++◌, Result, Ok, Err}
 use Rattle.std.specs.Result.{OnOk, IfErr}
-use Rattle.script_rebuild.specs.Names.{Port, written, Line2, Flush, LineFault, PacketLine, IsPacketOf}
+use Rattle.script_rebuild.specs.Names.{Port, written, Line2, Flush, LineFault}
 use Rattle.script_text.specs.Lines.{◌>>=◌}
 use Rattle.script_rebuild.specs.declared.plan.RebuildPlan.{RebuildPlan}
 use Rattle.script_rebuild.specs.declared.version.Version.{Version}
@@ -67,7 +67,3 @@ pub record PutsText (p : RebuildPlan) (version : Version) (text : List ℕ) (old
     (answer : Result (Unit {0}) LineFault) : Type 0 where
   pub ok : OnOk answer (PutsLine p version text old new lines)
   pub err : IfErr answer (λ fault. says_placed p version lines text ≡ Err fault)
-
--- a line's text, with the packet that was found in it, if one was
-abbrev pub IsText : List ℕ → Option PacketLine → Type 0
-IsText text found = (length text ≤ 256) × IfSome found (λ p. IsPacketOf text p.id p.packet)

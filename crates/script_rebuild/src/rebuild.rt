@@ -11,7 +11,7 @@ ghost use Rattle.script_rebuild.specs.Versions.{says};
 ghost use Rattle.script_rebuild.specs.Spending.{CanSpend, Spends};
 ghost use Rattle.script_rebuild.specs.Writer.{count_of, kept_by, CanBePut2, Stands as StandsForLines};
 ghost use Rattle.script_rebuild.specs.Writer.{debt_of as debt_of_writer};
-ghost use Rattle.script_rebuild.specs.PutLine.{PutsText, AnswersTo, IsFor, IsText, fits_after, says_placed};
+ghost use Rattle.script_rebuild.specs.PutLine.{PutsText, AnswersTo, IsFor, fits_after, says_placed};
 ghost use Rattle.script_rebuild.specs.Rebuilt.{port_of};
 ghost use Rattle.script_rebuild.specs.Script.{in_order};
 
@@ -21,10 +21,8 @@ use crate::version::{Version, is_header};
 use arrayvec::ArrayVec;
 use memchr::memchr;
 use port_formatter::Formatter;
-use script_text::{
-    Item, LINE_BYTES, Line, Line2, LineFault, PacketLine, packet_line, read_into, read_new,
-};
-use source_events::{Plan, SourceKind};
+use script_text::{LINE_BYTES, Line, Line2, LineFault, read_into, read_new};
+use source_events::Plan;
 use std::alloc::{AllocError, Global};
 use trace_stream::{Action, Outlet, Progress, put_owed};
 
@@ -104,16 +102,14 @@ fn read_line(plan: &Plan, version: Version, text: &[u8]) -> Result<Line2, LineFa
     }
 }
 
-/// Puts what a line says, which may have been found. At a fault the writer is as before.
+/// Puts what a line says. At a fault the writer is as before.
 #[inline(always)]
 fn put_line(
     writer: &mut LineWriter,
     plan: &RebuildPlan,
     version: Version,
     text: &[u8],
-    found: &Option<PacketLine>,
 ) -> Result<(), LineFault>
-    requires text { IsText text.now found.now }
     requires plan { IsFor plan.now writer.old }
     requires room { CanSpend 200 writer.old.formatter }
     ensures plan { IsFor plan.now writer.new }
@@ -122,15 +118,6 @@ fn put_line(
         PutsText plan.now version text.now writer.old writer.new lines result }
     ensures spent { Spends 200 writer.old.formatter writer.new.formatter }
 {
-    if let Some(found) = found {
-        if let Some(SourceKind::Itm) = plan.plan.kind_of(found.id) {
-            let said = Line::Of {
-                id: found.id,
-                item: Item::Itm(found.packet),
-            };
-            return writer.put(&said);
-        }
-    }
     let mut said = Line::Nothing;
     match read_into(text, &plan.plan, &mut said) {
         Ok(()) => writer.put(&said),
@@ -254,7 +241,6 @@ impl Rebuild {
             &self.plan,
             self.version,
             self.line.as_slice(),
-            &None,
         ) {
             Ok(()) => self.writer.flush(),
             Err(fault) => {
@@ -299,7 +285,7 @@ impl Rebuild {
         if byte == b'\n' {
             let mut text = ArrayVec::new();
             append(&mut text, self.line.as_slice());
-            self.end_line(text.as_slice(), &None, outlet)
+            self.end_line(text.as_slice(), outlet)
         } else {
             self.count += 1;
             self.fault = Some(ScriptFault {
@@ -312,9 +298,9 @@ impl Rebuild {
 
     /// A line of this text is at its end: what it says is put, or its fault is kept. Answers whether it has one.
     #[inline(always)]
-    fn end_line(&mut self, text: &[u8], found: &Option<PacketLine>, outlet: &mut Outlet) -> bool
+    fn end_line(&mut self, text: &[u8], outlet: &mut Outlet) -> bool
         requires ready { MayTake self.old 1 outlet.old }
-        requires text { IsText text.now found.now }
+        requires few { length text.now ≤ 256 }
         ensures moved { HasMoved self.old self.new 1 }
         ensures taken { (mid : Rebuild) (seen : List ℕ) → IsOpen mid self.old text.now → Reads mid seen →
             TakesByte mid self.new seen 10 outlet.old outlet.new }
@@ -322,7 +308,7 @@ impl Rebuild {
         ensures fault { result ≡ is_some self.new.fault }
     {
         self.count += 1;
-        match put_line(&mut self.writer, &self.plan, self.version, text, found) {
+        match put_line(&mut self.writer, &self.plan, self.version, text) {
             Ok(()) => {
                 self.writer.give(outlet);
                 self.line.clear();
@@ -342,22 +328,17 @@ impl Rebuild {
 
     /// Takes a whole line and its line feed, where no line is open. It is read where it lies.
     #[inline(always)]
-    fn take_line(
-        &mut self,
-        text: &[u8],
-        found: &Option<PacketLine>,
-        outlet: &mut Outlet,
-    ) -> Progress
+    fn take_line(&mut self, text: &[u8], outlet: &mut Outlet) -> Progress
         requires ready { MayTake self.old (length text.now + 1) outlet.old }
         requires closed { open_len self.old ≡ 0 }
-        requires text { IsText text.now found.now }
+        requires few { length text.now ≤ 256 }
         requires plain { All (λ b. (b == 10) ≡ false) text.now }
         ensures bytes { result.bytes ≡ length text.now + 1 }
         ensures count { taken_by self.new ≡ taken_by self.old + result.bytes }
         ensures fed { Feeds self.old self.new (text.now ++ 10 ∷ []) outlet.old outlet.new result.is_faulty }
     {
         self.count += text.len() as u64;
-        let is_faulty = self.end_line(text, found, outlet);
+        let is_faulty = self.end_line(text, outlet);
         Progress {
             bytes: text.len() + 1,
             is_faulty,
@@ -423,13 +404,9 @@ impl Action for Rebuild {
     /// Takes the bytes up to a line feed, and that.
     fn feed(&mut self, piece: &[u8], outlet: &mut Outlet, _notes: &mut Outlet) -> Progress {
         if self.line.is_empty() {
-            let found = packet_line(piece);
-            if let Some(line) = &found {
-                return self.take_line(&piece[..line.bytes], &found, outlet);
-            }
             let len = plain_len(piece, LINE_BYTES);
             if len < piece.len() && piece[len] == b'\n' {
-                return self.take_line(&piece[..len], &None, outlet);
+                return self.take_line(&piece[..len], outlet);
             }
         }
         self.feed_open(piece, outlet)

@@ -2,10 +2,9 @@
 use Rattle.std.proofs.Common.{◌≡◌, ℕ, suc, ◌*◌, ◌<◌, ◌≤◌, ◌^◌, List, [], ◌∷◌, length, refl, sym, subst, ap, arith, Bool}
 use Rattle.std.proofs.Common.{true, false, Some, None, Option, Ok, Err, Result, ◌==◌, ◌||◌, nat_lt, option_map, codes}
 use Rattle.std.proofs.Common.{if◌then◌else◌, bytes_eq}
-use Rattle.std.specs.List.{AllPass}
 use Rattle.std.specs.Option.{option_map_or}
 use Rattle.std.proofs.lemmas.Bool.Decides.{nat_tests}
-use Rattle.hex.specs.Hex.{decode_of, is_hex_digit}
+use Rattle.hex.specs.Hex.{decode_of}
 use Rattle.hex.specs.declared.error.FromHexError.{FromHexError}
 use Rattle.hex.proofs.HexLemmas.{decode_of-ok}
 use Rattle.script_text.specs.Names.{IsProperStamp, Stamp, number_named, text_after}
@@ -88,14 +87,11 @@ pub decoded_ok : (r : Result (List ℕ) FromHexError) (bytes : List ℕ) → dec
 decoded_ok (Ok x) bytes e = let same : x ≡ bytes = cc in ap Ok same
 decoded_ok (Err x) bytes e = cc
 
--- what bytes are read of: so many digits, which say 1 to 100 bytes
-pub bytes_are : (text bytes : List ℕ) → bytes_named text ≡ Some bytes →
-    ((2 ≤ length text) × AllPass is_hex_digit text) × Fits Bytes bytes
-bytes_are text bytes e = by (nat_lt (length text) 2) (nat_lt 200 (length text)) refl refl e
+pub bytes_fit : (text bytes : List ℕ) → bytes_named text ≡ Some bytes → Fits Bytes bytes
+bytes_fit text bytes e = by (nat_lt (length text) 2) (nat_lt 200 (length text)) refl refl e
   where
     by : (v w : Bool) → nat_lt (length text) 2 ≡ v → nat_lt 200 (length text) ≡ w →
-        (if v || w then None else decoded (decode_of text)) ≡ Some bytes →
-        ((2 ≤ length text) × AllPass is_hex_digit text) × Fits Bytes bytes
+        (if v || w then None else decoded (decode_of text)) ≡ Some bytes → Fits Bytes bytes
     by true w a b e = cc
     by false true a b e = cc
     by false false a b e =
@@ -103,7 +99,7 @@ bytes_are text bytes e = by (nat_lt (length text) 2) (nat_lt 200 (length text)) 
         let len : length text ≡ 2 * length bytes = d.2 in
         let low : 2 ≤ length text = grind (arith, nat_tests) in
         let high : length text ≤ 200 = grind (arith, nat_tests) in
-        ((low, d.1), (omega arith, omega arith, d.3))
+        (omega arith, omega arith, d.3)
 
 -- each kind of field
 pub value_fits : (kind : Kind) (word : List ℕ) (value : Value kind) → value_of kind word ≡ Some value → Fits kind value
@@ -117,7 +113,7 @@ value_fits (Known most) word n e =
     )
 value_fits (Digits count) word n e = hexadecimal_small count word n e
 value_fits Time word stamp e = stamp_said word stamp e
-value_fits Bytes word bytes e = (bytes_are word bytes e).1
+value_fits Bytes word bytes e = bytes_fit word bytes e
 
 -- and of all fields
 pub values_fit : (fields : List Field) (k : ℕ) (words : List (List ℕ)) (values : Values fields) →

@@ -8,7 +8,6 @@ pub mod Shapes
 pub mod Items
 pub mod Lines
 pub mod Said
-pub mod Quick
 pub mod VersionTwo
 pub mod Bytes
 pub mod Table

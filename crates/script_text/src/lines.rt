@@ -11,8 +11,6 @@ use crate::dwt_shapes::dwt_of;
 use crate::items::Item;
 use crate::itm_shapes::itm_of;
 use crate::line_fault::LineFault;
-use crate::quick::quick_raw;
-use crate::quick_datum::quick_datum;
 use crate::raw_bytes::raw_of;
 use crate::shapes::{Shape, shape_of};
 use crate::stp_shapes::stp_of;
@@ -127,14 +125,6 @@ fn read_printable(line: &[u8], plan: &Plan, said: &mut Line) -> Result<(), LineF
     ensures said { OnOk result (IsSaid plan.now said.new) }
     ensures same { OnErr result (said.new ≡ said.old) }
 {
-    if let Some(found) = quick_raw(line) {
-        let (id, bytes) = found;
-        return take_item(plan.kind_of(id), id, Item::Raw(bytes), said);
-    }
-    if let Some(found) = quick_datum(line) {
-        let (id, item) = found;
-        return take_item(plan.kind_of(id), id, Item::Stp(item), said);
-    }
     let mut words = Words::new();
     if !put_words(line, &mut words) {
         return Err(LineFault::BadLine);

@@ -94,10 +94,9 @@ pub fn byte_at(words: &[&[u8]], k: usize) -> Option<u8>
     }
 }
 
-/// The value of this size that a text is, two digits for each byte.
-#[inline(always)]
-pub fn value_named(size: Size, text: &[u8]) -> Option<u32>
-    ensures value { result ≡ named (2 * byte_count size) text.now }
+/// The value of this size that the word of this number is, two digits for each byte.
+pub fn value_at(size: Size, words: &[&[u8]], k: usize) -> Option<u32>
+    ensures value { result ≡ hexadecimal_in (2 * byte_count size) (texts words.now) k }
     ensures fits { IfSome result (λ n. n < 256 ^ byte_count size) }
 {
     let count = match size {
@@ -105,18 +104,10 @@ pub fn value_named(size: Size, text: &[u8]) -> Option<u32>
         Size::Two => 4,
         Size::Four => 8,
     };
-    match hexadecimal_named(count, text) {
+    match hexadecimal_at(count, words, k) {
         Some(value) => Some(value as u32),
         None => None,
     }
-}
-
-/// The value of this size that the word of this number is.
-pub fn value_at(size: Size, words: &[&[u8]], k: usize) -> Option<u32>
-    ensures value { result ≡ hexadecimal_in (2 * byte_count size) (texts words.now) k }
-    ensures fits { IfSome result (λ n. n < 256 ^ byte_count size) }
-{
-    value_named(size, word_of(words, k))
 }
 
 /// The decimal number up to this one that the word after the first is, and the value of this size that the word of this

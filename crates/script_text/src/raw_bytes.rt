@@ -48,7 +48,7 @@ impl RawBytes {
 }
 
 /// The bytes that a text is in hexadecimal, two digits each: 1 to 100.
-pub fn bytes_named(text: &[u8]) -> Option<RawBytes>
+fn bytes_named(text: &[u8]) -> Option<RawBytes>
     ensures { result ≡ named text.now }
 {
     if text.len() < 2 || text.len() > 2 * RAW_BYTES {

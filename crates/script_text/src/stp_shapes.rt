@@ -1,6 +1,6 @@
 //! The texts of STP items, by their words.
 
-ghost use Rattle.std.specs.Prelude.{◌≡◌, ◌<◌, ◌≤◌, ◌/◌, true, false};
+ghost use Rattle.std.specs.Prelude.{◌≡◌, ◌≤◌, ◌/◌};
 ghost use Rattle.script_text.specs.Names.{bits_of};
 ghost use Rattle.script_text.specs.Words.{texts};
 ghost use Rattle.script_text.specs.Numbers.{hexadecimal_at as hexadecimal_in};
@@ -29,10 +29,9 @@ pub enum StpShape {
 }
 
 /// How many digits a datum of this width has.
-#[inline(always)]
-pub fn digits_of(width: Width) -> usize
+fn digits_of(width: Width) -> usize
     ensures value { result ≡ bits_of width / 4 }
-    ensures few { (0 < result) × (result ≤ 16) }
+    ensures few { result ≤ 16 }
 {
     match width {
         Width::Four => 1,

@@ -1,5 +1,5 @@
-use Rattle.std.proofs.Common.{◌+◌, ◌∙◌, refl, sym, ap, subst, arith, Err, Result, Some}
-use Rattle.script_rebuild.specs.Names.{Itm, Of, Line2, One, PacketLine, IsPacketOf, LineFault, answer}
+use Rattle.std.proofs.Common.{◌∙◌, refl, sym, ap, subst, Err, Result}
+use Rattle.script_rebuild.specs.Names.{Line2, One, LineFault, answer}
 use Rattle.script_text.specs.Lines.{◌>>=◌}
 use Rattle.script_rebuild.specs.PutLine.{fits_after}
 use Rattle.script_rebuild.specs.Rebuilt.{port_of}
@@ -7,8 +7,7 @@ use Rattle.script_rebuild.specs.Routed.{placed}
 use Rattle.script_rebuild.specs.Writer.{CanBePut, stp_of}
 use Rattle.script_rebuild.proofs.Rooms.{nothing_spent}
 use Rattle.script_rebuild.specs.ReadingLaws.{says_fault}
-use Rattle.script_rebuild.proofs.Sources.{says_same, puts_said, packet_read, packet_said}
-use Rattle.script_rebuild.proofs.Sources.{can_be_put, there}
+use Rattle.script_rebuild.proofs.Sources.{says_same, puts_said, can_be_put}
 use Rattle.script_rebuild.proofs.rebuild.put_line.Goals as goal
 
 pub returns-in-Ok-clause-puts : goal.returns-in-Ok-clause-puts
@@ -17,32 +16,15 @@ returns-in-Ok-clause-puts c = λ lines s.
     let line = c.read_into.new.said in
     let read = c.read_into.ensures.value ∙ ap (λ (r : Result (Unit {0}) LineFault). answer r line) c.in-Ok.is in
     puts_said p c.args.version c.args.text.now c.args.writer.now _ lines (One line) c.requires.plan
-    (says_same p.plan c.args.version lines c.args.text.now line read) c.put-in-Ok.result (c.put-in-Ok.ensures.puts (port_of p) lines s)
+    (says_same p.plan c.args.version lines c.args.text.now line read) c.put.result (c.put.ensures.puts (port_of p) lines s)
 
 pub put-requires-clause-said : goal.put-requires-clause-said
 put-requires-clause-said c =
-    let says = there (λ (p : PacketLine). IsPacketOf c.args.text.now p.id p.packet) c.args.found.now c.in-Some.found c.in-Some.is c.requires.text.1 in
-    let kind = sym c.kind_of.ensures ∙ c.in-Some-Itm.is ∙ ap Some c.in-Some-Itm.field-0-is in
-    let said = packet_said c.args.plan.now.plan c.args.text.now c.in-Some.found says kind in
-    (said.0, said.1, said.2, tt)
-
-pub returns-in-Some-Itm-clause-puts : goal.returns-in-Some-Itm-clause-puts
-returns-in-Some-Itm-clause-puts c = λ lines s.
-    let p = c.args.plan.now in
-    let line = Of c.in-Some.found.id (Itm c.in-Some.found.packet) in
-    let says = there (λ (p : PacketLine). IsPacketOf c.args.text.now p.id p.packet) c.args.found.now c.in-Some.found c.in-Some.is c.requires.text.1 in
-    let kind = sym c.kind_of.ensures ∙ c.in-Some-Itm.is ∙ ap Some c.in-Some-Itm.field-0-is in
-    let read = packet_read p.plan c.args.text.now c.in-Some.found says kind c.requires.text.0 in
-    puts_said p c.args.version c.args.text.now c.args.writer.now _ lines (One line) c.requires.plan
-    (says_same p.plan c.args.version lines c.args.text.now line read) c.put.result (c.put.ensures.puts (port_of p) lines s)
-
-pub put-requires-in-Ok-clause-said : goal.put-requires-in-Ok-clause-said
-put-requires-in-Ok-clause-said c =
     subst (λ ids. CanBePut ids c.read_into.new.said) (sym c.requires.plan.stp)
     (can_be_put c.args.plan.now.plan c.read_into.new.said c.in-Ok.ensures.said)
 
-pub returns-in_default-fault : goal.returns-in_default-fault
-returns-in_default-fault c = record {
+pub returns-in_default : goal.returns-in_default
+returns-in_default c = record {
   plan = c.requires.plan;
   same = refl;
   puts = λ lines s.
@@ -53,7 +35,7 @@ returns-in_default-fault c = record {
             ap (λ (r : Result Line2 LineFault). r >>= placed p.funnel)
             (says_fault p.plan c.args.version lines c.args.text.now c.in-Err.fault
             (c.read_into.ensures.value ∙ ap (λ (r : Result (Unit {0}) LineFault). answer r c.read_into.new.said) c.in-Err.is)
-            c.in_default-fault.not-BadLine);
+            c.in_default.not-BadLine);
       };
   spent = nothing_spent c.args.writer.now.formatter 200;
 }

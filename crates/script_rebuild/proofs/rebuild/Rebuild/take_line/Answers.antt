@@ -20,5 +20,5 @@ returns-clause-fed c =
     let new = c.end_line-is_faulty.new.self in
     let ended = c.end_line-is_faulty.ensures in
     line_taken r new line c.args.outlet.now c.end_line-is_faulty.new.outlet c.end_line-is_faulty.result ended.moved.same ended.reading ended.fault
-    (λ seen s. whole_line r new seen line c.args.outlet.now c.end_line-is_faulty.new.outlet small c.requires.ready.live.sound c.requires.closed c.requires.text.0 c.requires.plain s
+    (λ seen s. whole_line r new seen line c.args.outlet.now c.end_line-is_faulty.new.outlet small c.requires.ready.live.sound c.requires.closed c.requires.few c.requires.plain s
     (λ reads. ended.taken (opened r line (length line) small) _ (record { plan = refl; fault = refl; lines = refl; version = refl; count = refl; writer = refl; line_is = refl }) reads))

@@ -1,42 +1,18 @@
-use Rattle.std.proofs.Common.{arith, ◌≡◌, ◌∷◌, [], ◌++◌, ◌+◌, ◌∙◌, ℕ, ap, sym, subst, take, IfSome}
-use Rattle.std.proofs.lemmas.List.{take_more, length-take, length-take-le}
-use Rattle.script_rebuild.specs.Names.{PacketLine, IsFirstLine, IsPacketOf}
+use Rattle.std.proofs.Common.{◌≡◌, ◌∷◌, [], ◌++◌, ◌+◌, ◌∙◌, ℕ, ap, sym, subst, take}
+use Rattle.std.proofs.lemmas.List.{take_more, length-take-le}
 use Rattle.script_rebuild.specs.Rebuilder.{Feeds}
-use Rattle.script_rebuild.proofs.Sources.{there}
 use Rattle.script_rebuild.proofs.Taking.{taken_so}
-use Rattle.script_rebuild.proofs.FirstLines.{first_plain, first_says, first_ended}
 use Rattle.script_rebuild.proofs.rebuild.RebuildAction.feed.Goals as goal
 
 pub returns-then-piece-len-eq10-clause-fed : goal.returns-then-piece-len-eq10-clause-fed
 returns-then-piece-len-eq10-clause-fed c = λ seen s.
     let piece = c.args.piece.now in
     let n = c.plain_len-len.result in
-    let bytes : c.take_line-then-piece-len-eq10.result.bytes ≡ n + 1 = c.take_line-then-piece-len-eq10.ensures.bytes ∙ ap (λ (k : ℕ). k + 1) (length-take-le n piece c.plain_len-len.ensures.bound) in
-    let front : take n piece ++ 10 ∷ [] ≡ take c.take_line-then-piece-len-eq10.result.bytes piece =
+    let bytes : c.take_line.result.bytes ≡ n + 1 = c.take_line.ensures.bytes ∙ ap (λ (k : ℕ). k + 1) (length-take-le n piece c.plain_len-len.ensures.bound) in
+    let front : take n piece ++ 10 ∷ [] ≡ take c.take_line.result.bytes piece =
     ap (λ (b : ℕ). take n piece ++ b ∷ []) (sym c.if-piece-len-eq10.true) ∙ sym (take_more piece n 0 c.if-len-piece.true) ∙ ap (λ (k : ℕ). take k piece) (sym bytes) in
-    let line = c.take_line-then-piece-len-eq10 in
-    let fed = subst (λ l. Feeds c.args.self.now line.new.self l c.args.outlet.now line.new.outlet line.result.is_faulty) front line.ensures.fed in
-    taken_so line.new.self c.args.self.now.plan seen _ _ _ line.result.is_faulty fed.reading (fed.fed seen (s.reads c.requires.live.reading))
-
-pub take_line-requires-clause-plain : goal.take_line-requires-clause-plain
-take_line-requires-clause-plain c =
-    first_plain c.args.piece.now c.in-Some.line (there (IsFirstLine c.args.piece.now) c.packet_line-found.result c.in-Some.line c.in-Some.is c.packet_line-found.ensures)
-
-pub take_line-requires-clause-text : goal.take_line-requires-clause-text
-take_line-requires-clause-text c =
-    let first = there (IsFirstLine c.args.piece.now) c.packet_line-found.result c.in-Some.line c.in-Some.is c.packet_line-found.ensures in
-    let size = length-take c.in-Some.line.bytes c.args.piece.now in (
-      omega (arith, size, first.bytes, first.few),
-      subst (λ o. IfSome o (λ (p : PacketLine). IsPacketOf (take c.in-Some.line.bytes c.args.piece.now) p.id p.packet)) (sym c.in-Some.is)
-          (first_says c.args.piece.now c.in-Some.line first),
-    )
-
-pub returns-in-Some-clause-fed : goal.returns-in-Some-clause-fed
-returns-in-Some-clause-fed c = λ seen s.
-    let first = there (IsFirstLine c.args.piece.now) c.packet_line-found.result c.in-Some.line c.in-Some.is c.packet_line-found.ensures in
     let line = c.take_line in
-    let fed = subst (λ l. Feeds c.args.self.now line.new.self l c.args.outlet.now line.new.outlet line.result.is_faulty)
-    (first_ended c.args.piece.now c.in-Some.line first line.result.bytes line.ensures.bytes) line.ensures.fed in
+    let fed = subst (λ l. Feeds c.args.self.now line.new.self l c.args.outlet.now line.new.outlet line.result.is_faulty) front line.ensures.fed in
     taken_so line.new.self c.args.self.now.plan seen _ _ _ line.result.is_faulty fed.reading (fed.fed seen (s.reads c.requires.live.reading))
 
 pub returns-clause-fed : goal.returns-clause-fed
