@@ -135,13 +135,3 @@ some_word size h = grind (arith, nat_tests)
 pub both_some : {X : Type 0} (r : Option X) {P Q R : X → Type 0} → IfSome r P → IfSome r Q → ((x : X) → P x → Q x → R x) → IfSome r R
 both_some None a b h = tt
 both_some (Some x) a b h = h x a b
-
--- what a sound state says
-under : (n m : ℕ) (t : Bool) → (nat_lt n m && t) ≡ true → (n < m) × (t ≡ true)
-under n m t e = grind (arith, nat_tests)
-
-pub sound_word : (s : Partial) (row : Row) (payload size n v : ℕ) → s ≡ Word row payload size n v → is_sound s ≡ true → n < nibble_count size
-sound_word s row payload size n v e h =
-    let a = under payload (16 ^ (line_of row).payload) _ (sym (ap is_sound e) ∙ h) in
-    let b = under size 15 _ a.1 in
-    (under n (nibble_count size) _ b.1).0

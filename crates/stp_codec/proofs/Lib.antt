@@ -9,7 +9,6 @@ pub mod Words
 pub mod AtOnce
 pub mod RowTables
 pub mod Finishing
-pub mod ByBytes
 pub mod Cutting
 pub mod Passing
 pub mod Leaving

@@ -66,8 +66,3 @@ pub number_of_three : (c : ℕ) → c < 16 → get_or OPCODES.now (32 + c) 0 < 3
     ((c < 2) × (get_or OPCODES.now (32 + c) 0 ≡ 29 + c)) ⊎ ((6 ≤ c) × ((c < 10) × (get_or OPCODES.now (32 + c) 0 ≡ 25 + c)))
 unfolding under says_three
 number_of_three c l m = three_says c _ (below (λ k. says_three k (get_or OPCODES.now (32 + k) 0)) 16 c l refl) m
-
--- what a packet's first nibble leaves is sound
-pub left_sound : (order : Order) (b : ℕ) → b < 16 → is_sound (left_by order b) ≡ true
-unfolding under
-left_sound order b l = below (λ k. is_sound (left_by order k)) 16 b l refl

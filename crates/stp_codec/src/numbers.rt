@@ -1,11 +1,8 @@
 //! The numbers that nibbles of bytes make (MIPI System Trace Protocol, version 2).
 
 ghost use Rattle.std.specs.Prelude.{◌≡◌, ℕ, ◌+◌, ◌-◌, ◌*◌, ◌/◌, ◌%◌, ◌^◌, ◌<◌, ◌≤◌, List, length, get_or};
-ghost use Rattle.stp_codec.specs.Names.{number_with, number, Lsn, Msn};
+ghost use Rattle.stp_codec.specs.Names.{number, Lsn, Msn};
 ghost use Rattle.stp_codec.specs.Wholes.{nibbles_in, between, number_from};
-
-use stp_grammar::nibble::number_with;
-use stp_grammar::packet::Order;
 
 /// One of the nibbles of these bytes.
 #[inline(always)]
@@ -17,85 +14,6 @@ pub fn nibble_of(bytes: &[u8], index: usize) -> u8
 {
     let byte = bytes[index / 2];
     if index % 2 == 0 { byte % 16 } else { byte / 16 }
-}
-
-/// The number that `count` nibbles make with the two of this byte, where they made `value` without them.
-#[inline(always)]
-fn number_with_byte(order: Order, count: u8, value: u64, byte: u8) -> u64
-    requires few { count + 2 ≤ 16 }
-    requires fits { value < 16 ^ count }
-    ensures value { result ≡ number_with order (count + 1) (number_with order count value (byte % 16)) (byte / 16) }
-    ensures fits { result < 16 ^ (count + 2) }
-{
-    let first = number_with(order, count, value, byte % 16);
-    number_with(order, count + 1, first, byte / 16)
-}
-
-/// The number that `count` nibbles make with those of whole bytes, `pairs` of them, where they made `value` without
-/// them.
-#[inline(always)]
-fn number_by_bytes(
-    order: Order,
-    count: u8,
-    value: u64,
-    bytes: &[u8],
-    first: usize,
-    pairs: u8,
-) -> u64
-    requires few { count + 2 * pairs ≤ 16 }
-    requires fits { value < 16 ^ count }
-    requires there { first + pairs ≤ length bytes.now }
-    ensures value { result ≡
-        number_from order count value (between (nibbles_in bytes.now) (2 * first) (2 * first + 2 * pairs)) }
-    ensures fits { result < 16 ^ (count + 2 * pairs) }
-{
-    let mut number = value;
-    for index in 0..pairs {
-        let byte = bytes[first + usize::from(index)];
-        number = number_with_byte(order, count + 2 * index, number, byte);
-    }
-    number
-}
-
-/// The number that `count` nibbles make with the next `more`, where they made `value` without them. The first of them
-/// is the low nibble of its byte.
-#[inline(always)]
-fn number_from_low(order: Order, count: u8, value: u64, bytes: &[u8], first: usize, more: u8) -> u64
-    requires few { count + more ≤ 16 }
-    requires fits { value < 16 ^ count }
-    requires there { 2 * first + more ≤ 2 * length bytes.now }
-    ensures value { result ≡
-        number_from order count value (between (nibbles_in bytes.now) (2 * first) (2 * first + more)) }
-    ensures fits { result < 16 ^ (count + more) }
-{
-    let pairs = more / 2;
-    let number = number_by_bytes(order, count, value, bytes, first, pairs);
-    if more % 2 == 0 {
-        number
-    } else {
-        let last = bytes[first + pairs as usize] % 16;
-        number_with(order, count + 2 * pairs, number, last)
-    }
-}
-
-/// The number that `count` nibbles make with the next `more`, where they made `value` without them. It goes byte by
-/// byte.
-#[inline(always)]
-fn number_bytewise(order: Order, count: u8, value: u64, bytes: &[u8], start: usize, more: u8) -> u64
-    requires few { count + more ≤ 16 }
-    requires fits { value < 16 ^ count }
-    requires there { start + more ≤ 2 * length bytes.now }
-    ensures value { result ≡ number_from order count value (between (nibbles_in bytes.now) start (start + more)) }
-    ensures fits { result < 16 ^ (count + more) }
-{
-    if start % 2 == 0 {
-        number_from_low(order, count, value, bytes, start / 2, more)
-    } else if more == 0 {
-        value
-    } else {
-        let number = number_with(order, count, value, bytes[start / 2] / 16);
-        number_from_low(order, count + 1, number, bytes, start / 2 + 1, more - 1)
-    }
 }
 
 /// One more than the greatest number that 16 nibbles make.
@@ -148,21 +66,4 @@ pub fn number_at_once(bytes: &[u8], start: usize, more: u8) -> u64
     let number = turned(nibbles_from(bytes, start));
     let half = 32 - 2 * u32::from(more);
     number >> half >> half
-}
-
-/// The number that `count` nibbles make with the next `more`, where they made `value` without them.
-#[inline(always)]
-pub fn number_from(order: Order, count: u8, value: u64, bytes: &[u8], start: usize, more: u8) -> u64
-    requires few { count + more ≤ 16 }
-    requires fits { value < 16 ^ count }
-    requires there { start + more ≤ 2 * length bytes.now }
-    ensures value { result ≡ number_from order count value (between (nibbles_in bytes.now) start (start + more)) }
-    ensures fits { result < 16 ^ (count + more) }
-{
-    match order {
-        Order::Msn if count == 0 && start / 2 + 9 <= bytes.len() => {
-            number_at_once(bytes, start, more)
-        }
-        _ => number_bytewise(order, count, value, bytes, start, more),
-    }
 }

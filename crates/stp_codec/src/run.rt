@@ -46,13 +46,15 @@ fn async_after(before: usize, bytes: &[u8], there: usize) -> usize
 }
 
 /// How many nibbles of these bytes an ASYNC has before which this nibble is, none where that is 0; more than `there`,
-/// where the first of so many are within it; and 0 where neither is known. It is no part of the loop over packets.
+/// where the first of so many are within it, or are F and 0, within an opcode; and 0 where neither is known. It is no
+/// part of the loop over packets.
 #[inline(never)]
 fn async_in(first: u8, bytes: &[u8], there: usize) -> usize
     requires bytes { WINDOW ≤ length bytes.now }
     ensures { RunsTo (left_by Msn first) bytes.now there result }
 {
     match first {
+        0 if there == 2 && bytes[0] == 0x0F => 3,
         0 => async_after(0, bytes, there),
         15 => async_after(1, bytes, there),
         _ => 0,

@@ -2,8 +2,9 @@ use Rattle.std.proofs.Common.{◌≡◌, ◌+◌, true}
 use Rattle.stp_codec.specs.Names.{Go, is_sound, count_of}
 use Rattle.stp_codec.specs.Wholes.{nibbles_in, between}
 use Rattle.stp_codec.specs.Cuts.{Leads}
-use Rattle.stp_codec.proofs.waiting.with_bytes.Given as goal
+use Rattle.stp_codec.proofs.cut.cut_packet.Given as goal
 
+-- the nibbles so far are within the packet
 abbrev pub invariant-loop-index : goal.invariant-loop-index
 invariant-loop-index l = record {
   sound : is_sound l.partial ≡ true;
