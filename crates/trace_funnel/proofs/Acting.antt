@@ -20,7 +20,7 @@ use Rattle.trace_funnel.proofs.Nearing.{has_room, ahead_few}
 use Rattle.trace_funnel.proofs.Emptying.{drained}
 
 -- the places of an order: each ID of it has one, and no other has
-none_of : (x : ℕ) (ids : List ℕ) → list_any (λ y. y == x) ids ≡ false → count x (empty ids) ≡ 0
+pub none_of : (x : ℕ) (ids : List ℕ) → list_any (λ y. y == x) ids ≡ false → count x (empty ids) ≡ 0
 none_of x [] h = refl
 none_of x (y ∷ ids) h = by (y == x) h (none_of x ids) where
   by : (t : Bool) → (t || list_any (λ z. z == x) ids) ≡ false → (list_any (λ z. z == x) ids ≡ false →
@@ -72,7 +72,7 @@ queue_empty x (y ∷ ids) = by (y == x) (queue_empty x ids) where
   by false e = e
 
 -- how many places there are stays as it is
-length_turn : (hold : ℕ) (ps : List Place) → length (turn hold ps).places ≡ length ps
+pub length_turn : (hold : ℕ) (ps : List Place) → length (turn hold ps).places ≡ length ps
 length_turn hold ps = by (first_busy ps) (found ps) where
   by : (o : Option Found) → IsFound ps o → length (turn_of hold ps o).places ≡ length ps
   by None f = refl

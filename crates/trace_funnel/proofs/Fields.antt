@@ -1,209 +1,247 @@
 -- What the fields of a funnel say of its places.
-use Rattle.std.proofs.Common.{◌≡◌, ℕ, zero, suc, ◌-◌, ◌*◌, ◌<◌, ◌≤◌, List, [], ◌∷◌, ◌++◌, length, map, take, drop, Bool}
-use Rattle.std.proofs.Common.{true, false, nat_lt, refl, sym, ◌∙◌, ap, subst, arith, length-append, append-nil, get_or}
+use Rattle.std.proofs.Common.{◌≡◌, ℕ, zero, suc, ◌+◌, ◌-◌, ◌*◌, ◌^◌, ◌<◌, ◌≤◌, List, [], ◌∷◌, ◌++◌, length, map, Bool}
+use Rattle.std.proofs.Common.{true, false, cond, nat_lt, refl, sym, ◌∙◌, ap, subst, arith, get_or}
 use Rattle.std.proofs.Common.{set, Option, None, Some, ◌⊎◌, inl, inr}
-use Rattle.std.specs.Prelude.{not, nat_eq, IsTrue, is_some, IfNone, IfSome}
+use Rattle.std.specs.Prelude.{◌==◌, not, nat_eq, is_some, position, IsTrue}
 use Rattle.std.specs.List.{AllByRecursion}
 use Rattle.std.proofs.lemmas.Bool.{cases_lt, eq-eqb, ne_eqb, lt-ltb, le-ltb, ltb-true}
-use Rattle.std.proofs.lemmas.List.{take-append-drop, length-map, get_or-map, length-set}
+use Rattle.std.proofs.lemmas.List.{length-map, get_or-map, length-set}
 use Rattle.trace_funnel.specs.declared.queue.Queue.{Queue}
 use Rattle.trace_funnel.specs.declared.funnel.Funnel.TheInside.{Inside}
 use Rattle.trace_funnel.specs.Turns.{Place, Found, first_busy, longer, put, is_full, load, queue_of, waited_of, empty}
+use Rattle.trace_funnel.specs.Turns.{turn, is_busy}
 use Rattle.trace_funnel.specs.Kept.{count, Apart, AreBounded}
 use Rattle.trace_funnel.specs.Order.{are_apart}
-use Rattle.trace_funnel.specs.State.{State, fresh, with_places, id_at, queue_at, waited_at, HasPlace}
-use Rattle.trace_funnel.specs.Queues.{place_of, places_of, room_of, rooms_of, ids_of, round, IsNextBusy}
+use Rattle.trace_funnel.specs.State.{fresh, with_places, HasPlace, turn_by}
+use Rattle.trace_funnel.specs.Queues.{place_of, places_of, room_of, rooms_of, HaveRoom}
 use Rattle.trace_funnel.specs.Inside.{state_of, IsWhole}
 use Rattle.trace_funnel.proofs.Places.{IsFound, found}
+use Rattle.trace_funnel.proofs.Finding.{position_first, position_none}
 use Rattle.trace_funnel.proofs.Emptying.{idle_load, load_append}
-use Rattle.trace_funnel.proofs.Waiting.{put_bounded, waited_few, waited_idle}
-use Rattle.trace_funnel.proofs.Acting.{apart_empty, bounded_empty}
-use Rattle.trace_funnel.proofs.Shortness.{AreShort, empty_short, put_short}
+use Rattle.trace_funnel.proofs.Turning.{count_put, counts_turn}
+use Rattle.trace_funnel.proofs.Waiting.{put_bounded, turn_bounded, waited_few, waited_idle, all_few}
+use Rattle.trace_funnel.proofs.Acting.{apart_empty, bounded_empty, none_of, length_turn}
+use Rattle.trace_funnel.proofs.Shortness.{AreShort, empty_short, put_short, turn_short, queue_short}
 use Rattle.trace_funnel.proofs.Serving.{map_split, map_set, front_of, back_of, map_same}
-use Rattle.trace_funnel.proofs.Rounding.{count_round, queue_round, waited_round, one_there, queue_there, waited_there}
-use Rattle.trace_funnel.proofs.Rounding.{put_there, put_round, apart_same, ids_put}
+use Rattle.trace_funnel.proofs.Owning.{queue_there, waited_there, put_there}
+use Rattle.trace_funnel.proofs.Placing.{ids_of, place_is, place_at, has_place_is}
 
 all_at : (P : ℕ → Type 0) (xs : List ℕ) (i d : ℕ) → AllByRecursion P xs → i < length xs → P (get_or xs i d)
 all_at P [] i d a h = absurd (omega arith)
 all_at P (x ∷ xs) zero d a h = a.0
 all_at P (x ∷ xs) (suc i) d a h = all_at P xs i d a.1 (omega (arith, h))
 
-pub length_round : (n : ℕ) (ps : List Place) → length (round n ps) ≡ length ps
-length_round n ps =
-    let a = length-append (drop n ps) (take n ps) in let b = length-append (take n ps) (drop n ps) in
-    let c = ap length (take-append-drop n ps) in omega (arith, a, b, c)
+-- what is at an index has nothing to do with what stands for none
+any_none : (xs : List ℕ) (i d e : ℕ) → i < length xs → get_or xs i d ≡ get_or xs i e
+any_none [] i d e h = absurd (omega arith)
+any_none (x ∷ xs) zero d e h = refl
+any_none (x ∷ xs) (suc i) d e h = any_none xs i d e (omega (arith, h))
 
--- states with the same parts
-pub same_state : {o o' : List ℕ} {k k' d d' : ℕ} {ps ps' : List Place} → o ≡ o' → k ≡ k' → d ≡ d' → ps ≡ ps' →
-    (let s : State = record { order = o; hold = k; depth = d; places = ps } in s)
-    ≡ record { order = o'; hold = k'; depth = d'; places = ps' }
-same_state e k d p = (cc)
+-- each source of an order has a place
+some_at : (ids : List ℕ) (n : ℕ) → n < length ids → 1 ≤ count (get_or ids n 0) (empty ids)
+some_at [] n h = absurd (omega arith)
+some_at (x ∷ ids) zero h =
+    let c = count x (empty ids) in
+    let e = ap (λ t. cond t (c + 1) c) (eq-eqb x x refl) in omega (arith, e)
+some_at (x ∷ ids) (suc n) h = by (x == get_or ids n 0) (some_at ids n (omega (arith, h))) where
+  by : (t : Bool) → 1 ≤ count (get_or ids n 0) (empty ids) →
+      1 ≤ cond t (count (get_or ids n 0) (empty ids) + 1) (count (get_or ids n 0) (empty ids))
+  by true e = omega arith
+  by false e = e
+
+-- the IDs alone say how many places each has
+count_is : (x : ℕ) (ps : List Place) → count x ps ≡ count x (empty (ids_of ps))
+count_is x [] = refl
+count_is x (p ∷ ps) = ap (λ m. cond (p.id == x) (m + 1) m) (count_is x ps)
+
+-- where no queue of a source is found, it has no place
+absent : (id : ℕ) (qs : List Queue) → None ≡ position (λ q. q.id == id) qs → count id (places_of qs) ≡ 0
+absent id qs e =
+    count_is id (places_of qs)
+    ∙ none_of id (ids_of (places_of qs))
+    (sym (has_place_is id (ids_of (places_of qs))) ∙ ap is_some (sym (e ∙ place_is id qs)))
 
 -- the place of this number
-module _ (f : Inside) (whole : IsWhole f) (place : ℕ) (h : place < length (state_of f).order) (q : Queue)
-    (is : q ≡ get_or f.queues.items place q) where
+module _ (f : Inside) (whole : IsWhole f) (place : ℕ) (h : place < length f.order.items) where
+  abbrev id : ℕ
+  id = get_or f.order.items place 0
+
   abbrev qs : List Queue
   qs = f.queues.items
 
-  pub within : place < length f.queues.items
-  within =
-      let a = length-map (places_of qs) (λ (p : Place). p.id) in let b = length-map qs place_of in
-      omega (arith, a, b, h)
-
-  pub id_is : id_at (state_of f) place ≡ q.id
-  id_is =
-      get_or-map (λ (p : Place). p.id) (places_of qs) place (place_of q) 0
-      (let b = length-map qs place_of in let w = within in omega (arith, b, w))
-      ∙ ap (λ (p : Place). p.id) (get_or-map place_of qs place q (place_of q) within)
-      ∙ ap (λ (y : Queue). y.id) (sym is)
-
-  parts : places_of qs ≡ front_of place_of qs place within ++ (place_of q ∷ back_of place_of qs place within)
-  parts = map_split place_of qs place within q is
-
-  pub one_is : count (id_at (state_of f) place) (state_of f).places ≡ 1
+  one_is : count id (places_of qs) ≡ 1
   one_is =
-      count_round (id_at (state_of f) place) f.next (places_of qs) ∙ ap (λ id. count id (places_of qs)) id_is
-      ∙ one_there (places_of qs) _ _ (place_of q) parts whole.apart
+      let a = whole.same id in let b = some_at f.order.items place h in let c = whole.apart id in
+      omega (arith, a, b, c)
 
-  pub queue_is : queue_at (state_of f) place ≡ q.bytes.items
-  queue_is =
-      queue_round (id_at (state_of f) place) f.next (places_of qs) whole.apart
-      ∙ ap (λ id. queue_of id (places_of qs)) id_is ∙ queue_there (places_of qs) _ _ (place_of q) parts whole.apart
+  many : length (places_of qs) ≡ length f.order.items
+  many = length-map qs place_of ∙ whole.many
 
-  pub waited_is : waited_at (state_of f) place ≡ q.waited
-  waited_is =
-      waited_round (id_at (state_of f) place) f.next (places_of qs) whole.apart
-      ∙ ap (λ id. waited_of id (places_of qs)) id_is ∙ waited_there (places_of qs) _ _ (place_of q) parts whole.apart
-
-  pub room_is : room_of q ≡ f.depth
-  room_is =
-      ap room_of is ∙ sym (get_or-map room_of qs place q 0 within)
-      ∙ all_at (λ room. room ≡ f.depth) (rooms_of qs) place 0 whole.rooms
-      (let a = length-map qs room_of in let w = within in omega (arith, a, w))
-
-  pub has_place : length q.bytes.items ≤ room_of q → HasPlace (state_of f) place
-  has_place l = record {
+  pub has_place : HasPlace (state_of f) place
+  has_place = record {
     one = one_is;
-    few = (let a = length_round f.next (places_of qs) in let b = length-map qs place_of in let k = whole.few in
-        omega (arith, a, b, k));
-    short = (let a = ap length queue_is in let r = room_is in omega (arith, a, r, l));
+    few = (let a = many in let k = whole.few in omega (arith, a, k));
+    short = queue_short f.depth id (places_of qs) whole.short;
     some = whole.some;
     deep = whole.deep;
   }
 
-  pub full_is : length q.bytes.items ≤ room_of q → nat_eq (length q.bytes.items) f.depth
-      ≡ is_full f.depth (id_at (state_of f) place) (state_of f).places
-  full_is l = by (cases_lt (length q.bytes.items) f.depth)
-      ∙ ap (λ n. not (nat_lt n f.depth)) (sym (ap length queue_is)) where
-        by : ((length q.bytes.items < f.depth) ⊎ (f.depth ≤ length q.bytes.items)) →
-            nat_eq (length q.bytes.items) f.depth ≡ not (nat_lt (length q.bytes.items) f.depth)
-        by (inl less) =
-            ne_eqb (length q.bytes.items) f.depth (λ e. omega (arith, e, less))
-            ∙ sym (ap not (lt-ltb (length q.bytes.items) f.depth less))
-        by (inr more) =
-            eq-eqb (length q.bytes.items) f.depth (let r = room_is in omega (arith, r, l, more))
-            ∙ sym (ap not (le-ltb (length q.bytes.items) f.depth more))
+  -- what a search for its source found
+  pub seek : (source : ℕ) (read : List Queue) (r : Option ℕ) → source ≡ get_or f.order.items place source → read ≡ qs →
+      r ≡ position (λ q. q.id == source) read → r ≡ position (λ q. q.id == id) qs
+  seek source read r e a k =
+      k ∙ ap (λ (l : List Queue). position (λ q. q.id == source) l) a
+      ∙ ap (λ x. position (λ (q : Queue). q.id == x) qs) (e ∙ any_none f.order.items place source 0 h)
 
-  pub room_left : is_full f.depth (id_at (state_of f) place) (state_of f).places ≡ false →
-      length q.bytes.items < room_of q
-  room_left e = by (cases_lt (length q.bytes.items) f.depth) where
-    by : ((length q.bytes.items < f.depth) ⊎ (f.depth ≤ length q.bytes.items)) → length q.bytes.items < room_of q
-    by (inl less) = let r = room_is in omega (arith, r, less)
-    by (inr more) = absurd (
-        let full = ap (λ n. not (nat_lt n f.depth)) (ap length queue_is)
-        ∙ ap not (le-ltb (length q.bytes.items) f.depth more) in let wrong = sym e ∙ full in cc)
+  -- its queue is there
+  pub there : None ≡ position (λ q. q.id == id) qs → ⊥
+  there e = let a = absent id qs e in let b = one_is in omega (arith, a, b)
 
-  pub bound_is : q.waited ≤ (length (state_of f).order - 1) * f.hold
-  bound_is =
-      let len : length (state_of f).places ≡ length (state_of f).order =
-      length_round f.next (places_of qs) ∙ sym (length-map (places_of qs) (λ (p : Place). p.id)) in
-      subst (λ n. n ≤ (length (state_of f).order - 1) * f.hold) waited_is
-      (subst (λ n. waited_at (state_of f) place ≤ (n - 1) * f.hold) len
-      (waited_few f.hold (id_at (state_of f) place) (state_of f).places whole.bounded))
+  pub apart : Apart (places_of qs)
+  apart x = let a = whole.same x in let b = whole.apart x in omega (arith, a, b)
 
-  pub idle_is : queue_at (state_of f) place ≡ [] → q.waited ≡ 0
-  idle_is e = sym waited_is ∙ waited_idle f.hold (id_at (state_of f) place) (state_of f).places whole.bounded e
+  -- at this index
+  module _ (index : ℕ) (q : Queue) (found_at : Some index ≡ position (λ q. q.id == id) qs) (within : index < length qs)
+      (is : q ≡ get_or qs index q) where
+    id_is : q.id ≡ id
+    id_is =
+        ap (λ (y : Queue). y.id) is ∙ sym (ap (λ (p : Place). p.id) (get_or-map place_of qs index q (place_of q) within))
+        ∙ sym (get_or-map (λ (p : Place). p.id) (places_of qs) index (place_of q) 0
+        (let b = length-map qs place_of in omega (arith, b, within)))
+        ∙ (place_at id (ids_of (places_of qs)) index (sym (found_at ∙ place_is id qs))).1
 
-  -- a byte more in its queue
-  module _ (byte : ℕ) (new : Queue) (longer_is : place_of new
-      ≡ longer byte (place_of q)) (same_room : room_of new ≡ room_of q) where
-    pub puts : places_of (set qs place new) ≡ put q.id byte (places_of qs)
-    puts =
-        map_set place_of qs place within new
-        ∙ ap (λ p. front_of place_of qs place within ++ (p ∷ back_of place_of qs place within)) longer_is
-        ∙ sym (put_there (places_of qs) _ _ (place_of q) parts whole.apart byte)
+    parts : places_of qs ≡ front_of place_of qs index within ++ (place_of q ∷ back_of place_of qs index within)
+    parts = map_split place_of qs index within q is
 
-    round_puts : round f.next (places_of (set qs place new)) ≡ put q.id byte (round f.next (places_of qs))
-    round_puts = ap (round f.next) puts ∙ sym (put_round q.id byte f.next (places_of qs))
+    pub queue_is : queue_of id (places_of qs) ≡ q.bytes.items
+    queue_is =
+        ap (λ x. queue_of x (places_of qs)) (sym id_is) ∙ queue_there (places_of qs) _ _ (place_of q) parts apart
 
-    ids_stay : ids_of (places_of (set qs place new)) ≡ ids_of (places_of qs)
-    ids_stay = ap ids_of puts ∙ ids_put q.id byte (places_of qs)
+    pub waited_is : waited_of id (places_of qs) ≡ q.waited
+    waited_is =
+        ap (λ x. waited_of x (places_of qs)) (sym id_is) ∙ waited_there (places_of qs) _ _ (place_of q) parts apart
 
-    pub put_state : (g : Inside) → g.queues.items ≡ set qs place new → g.next ≡ f.next → g.hold ≡ f.hold →
-        g.depth ≡ f.depth →
-        state_of g ≡ with_places (state_of f) (put (id_at (state_of f) place) byte (state_of f).places)
-    put_state g a b c d =
-        same_state (ap (λ l. ids_of (places_of l)) a ∙ ids_stay) c d
-        (ap (λ l. round g.next (places_of l)) a ∙ ap (λ n. round n (places_of (set qs place new))) b ∙ round_puts
-        ∙ ap (λ id. put id byte (round f.next (places_of qs))) (sym id_is))
+    room_is : room_of q ≡ f.depth
+    room_is =
+        ap room_of is ∙ sym (get_or-map room_of qs index q 0 within)
+        ∙ all_at (λ room. room ≡ f.depth) (rooms_of qs) index 0 whole.rooms
+        (let a = length-map qs room_of in omega (arith, a, within))
 
-    pub put_whole : (g : Inside) → g.queues.items ≡ set qs place new → g.next ≡ f.next → g.hold ≡ f.hold →
-        g.depth ≡ f.depth → is_full f.depth (id_at (state_of f) place) (state_of f).places ≡ false → IsWhole g
-    put_whole g a b c d left = record {
-      next = (let l = ap length a ∙ length-set qs place new in let n = whole.next in omega (arith, l, n, b));
-      few = (let l = ap length a ∙ length-set qs place new in let n = whole.few in omega (arith, l, n));
-      rooms = subst (λ n. AllByRecursion (λ room. room ≡ n) (rooms_of g.queues.items)) (sym d)
-          (subst (AllByRecursion (λ room. room ≡ f.depth)) (sym (ap rooms_of a
-          ∙ map_same room_of qs place q new within is same_room)) whole.rooms);
-      short = subst (λ n. AreShort n (places_of g.queues.items)) (sym d)
-          (subst (AreShort f.depth) (sym (ap places_of a ∙ map_set place_of qs place within new))
-          (put_short f.depth _ (place_of q) (place_of new) _ byte longer_is
-          (let r = room_is in let room = room_left left in omega (arith, r, room))
-          (subst (AreShort f.depth) parts whole.short)));
-      some = (let n = whole.some in omega (arith, n, c));
-      held = (let n = whole.held in omega (arith, n, c));
-      deep = (let n = whole.deep in omega (arith, n, d));
-      apart = apart_same (places_of qs) (places_of g.queues.items) (ap (λ l. ids_of (places_of l)) a
-          ∙ ids_stay) whole.apart;
-      bounded = subst (λ n. AreBounded n (round g.next (places_of g.queues.items))) (sym c)
-          (subst (AreBounded f.hold) (sym (ap (λ l. round g.next (places_of l)) a
-          ∙ ap (λ n. round n (places_of (set qs place new))) b ∙ round_puts))
-          (put_bounded f.hold q.id byte (round f.next (places_of qs)) whole.bounded));
-    }
+    pub full_is : nat_eq (length q.bytes.items) f.depth ≡ is_full f.depth id (places_of qs)
+    full_is = by (cases_lt (length q.bytes.items) f.depth)
+        ∙ ap (λ n. not (nat_lt n f.depth)) (sym (ap length queue_is)) where
+          by : ((length q.bytes.items < f.depth) ⊎ (f.depth ≤ length q.bytes.items)) →
+              nat_eq (length q.bytes.items) f.depth ≡ not (nat_lt (length q.bytes.items) f.depth)
+          by (inl less) =
+              ne_eqb (length q.bytes.items) f.depth (λ e. omega (arith, e, less))
+              ∙ sym (ap not (lt-ltb (length q.bytes.items) f.depth less))
+          by (inr more) =
+              eq-eqb (length q.bytes.items) f.depth
+              (let s = has_place.short in let a = ap length queue_is in omega (arith, s, a, more))
+              ∙ sym (ap not (le-ltb (length q.bytes.items) f.depth more))
+
+    pub room_left : is_full f.depth id (places_of qs) ≡ false → length q.bytes.items < room_of q
+    room_left e = by (cases_lt (length q.bytes.items) f.depth) where
+      by : ((length q.bytes.items < f.depth) ⊎ (f.depth ≤ length q.bytes.items)) → length q.bytes.items < room_of q
+      by (inl less) = let r = room_is in omega (arith, r, less)
+      by (inr more) = absurd (
+          let full = ap (λ n. not (nat_lt n f.depth)) (ap length queue_is)
+          ∙ ap not (le-ltb (length q.bytes.items) f.depth more) in let wrong = sym e ∙ full in cc)
+
+    pub bound_is : q.waited ≤ (length f.order.items - 1) * f.hold
+    bound_is =
+        subst (λ n. n ≤ (length f.order.items - 1) * f.hold) waited_is
+        (subst (λ n. waited_of id (places_of qs) ≤ (n - 1) * f.hold) many
+        (waited_few f.hold id (places_of qs) whole.bounded))
+
+    pub idle_is : queue_of id (places_of qs) ≡ [] → q.waited ≡ 0
+    idle_is e = sym waited_is ∙ waited_idle f.hold id (places_of qs) whole.bounded e
+
+    -- a byte more in its queue
+    module _ (byte : ℕ) (new : Queue) (longer_is : place_of new ≡ longer byte (place_of q))
+        (same_room : room_of new ≡ room_of q) (g : Inside) (order : g.order ≡ f.order)
+        (queues : g.queues.items ≡ set qs index new) (hold : g.hold ≡ f.hold) (depth : g.depth ≡ f.depth) where
+      puts : places_of g.queues.items ≡ put id byte (places_of qs)
+      puts =
+          ap places_of queues ∙ map_set place_of qs index within new
+          ∙ ap (λ p. front_of place_of qs index within ++ (p ∷ back_of place_of qs index within)) longer_is
+          ∙ sym (put_there (places_of qs) _ _ (place_of q) parts apart byte)
+          ∙ ap (λ x. put x byte (places_of qs)) id_is
+
+      pub put_state : state_of g ≡ with_places (state_of f) (put id byte (places_of qs))
+      put_state = cc (puts)
+
+      pub put_whole : is_full f.depth id (places_of qs) ≡ false → IsWhole g
+      put_whole left = record {
+        few = subst (λ o. length o.items ≤ 16) (sym order) whole.few;
+        apart = subst (λ o. Apart (empty o.items)) (sym order) whole.apart;
+        many = ap length queues ∙ length-set qs index new ∙ whole.many ∙ ap (λ o. length o.items) (sym order);
+        same = λ x. ap (count x) puts ∙ count_put x id byte (places_of qs) ∙ whole.same x
+            ∙ ap (λ o. count x (empty o.items)) (sym order);
+        rooms = subst (λ n. HaveRoom n g.queues.items) (sym depth)
+            (subst (AllByRecursion (λ room. room ≡ f.depth)) (sym (ap rooms_of queues
+            ∙ map_same room_of qs index q new within is same_room)) whole.rooms);
+        short = subst (λ n. AreShort n (places_of g.queues.items)) (sym depth)
+            (subst (AreShort f.depth) (sym (ap places_of queues ∙ map_set place_of qs index within new))
+            (put_short f.depth _ (place_of q) (place_of new) _ byte longer_is
+            (let r = room_is in let room = room_left left in omega (arith, r, room))
+            (subst (AreShort f.depth) parts whole.short)));
+        some = (let n = whole.some in omega (arith, n, hold));
+        held = (let n = whole.held in omega (arith, n, hold));
+        deep = (let n = whole.deep in omega (arith, n, depth));
+        bounded = subst (λ n. AreBounded n (places_of g.queues.items)) (sym hold)
+            (subst (AreBounded f.hold) (sym puts) (put_bounded f.hold id byte (places_of qs) whole.bounded));
+      }
+
+-- a turn
+module _ (f g : Inside) (whole : IsWhole f) (order : g.order ≡ f.order) (hold : g.hold ≡ f.hold)
+    (depth : g.depth ≡ f.depth)
+    (turns : places_of g.queues.items ≡ (turn f.hold (places_of f.queues.items)).places) where
+  pub turn_whole : HaveRoom f.depth g.queues.items → IsWhole g
+  turn_whole rooms = record {
+    few = subst (λ o. length o.items ≤ 16) (sym order) whole.few;
+    apart = subst (λ o. Apart (empty o.items)) (sym order) whole.apart;
+    many =
+        sym (length-map g.queues.items place_of) ∙ ap length turns ∙ length_turn f.hold (places_of f.queues.items)
+        ∙ length-map f.queues.items place_of ∙ whole.many ∙ ap (λ o. length o.items) (sym order);
+    same = λ x. ap (count x) turns ∙ counts_turn f.hold (places_of f.queues.items) x ∙ whole.same x
+        ∙ ap (λ o. count x (empty o.items)) (sym order);
+    rooms = subst (λ n. HaveRoom n g.queues.items) (sym depth) rooms;
+    short = subst (λ n. AreShort n (places_of g.queues.items)) (sym depth)
+        (subst (AreShort f.depth) (sym turns) (turn_short f.depth f.hold (places_of f.queues.items) whole.short));
+    some = (let n = whole.some in omega (arith, n, hold));
+    held = (let n = whole.held in omega (arith, n, hold));
+    deep = (let n = whole.deep in omega (arith, n, depth));
+    bounded = subst (λ n. AreBounded n (places_of g.queues.items)) (sym hold)
+        (subst (AreBounded f.hold) (sym turns) (turn_bounded f.hold (places_of f.queues.items) whole.bounded));
+  }
+
+-- no place waits for long
+pub few_waits : (f : Inside) → IsWhole f → AllByRecursion (λ (p : Place). p.waited ≤ 2 ^ 32) (places_of f.queues.items)
+few_waits f whole =
+    all_few f.hold (places_of f.queues.items) whole.bounded
+    (let a = length-map f.queues.items place_of in let b = whole.many in let c = whole.few in omega (arith, a, b, c))
+    whole.held
 
 -- a fresh funnel
-ids_empty : (ids : List ℕ) → ids_of (empty ids) ≡ ids
-ids_empty [] = refl
-ids_empty (x ∷ ids) = ap (λ l. x ∷ l) (ids_empty ids)
-
 rooms_same : (depth : ℕ) (ids : List ℕ) → AllByRecursion (λ (room : ℕ). room ≡ depth) (map (λ (_ : ℕ). depth) ids)
 rooms_same depth [] = tt
 rooms_same depth (x ∷ ids) = (refl, rooms_same depth ids)
 
-module _ (f : Inside) (ids : List ℕ) (places : places_of f.queues.items ≡ empty ids)
-    (rooms : rooms_of f.queues.items ≡ map (λ _. f.depth) ids) (next : f.next ≡ 0) where
-  places_now : round f.next (places_of f.queues.items) ≡ empty ids
-  places_now =
-      ap (λ n. round n (places_of f.queues.items)) next ∙ append-nil (places_of f.queues.items) ∙ places
-
-  len_now : length f.queues.items ≡ length ids
-  len_now = sym (length-map f.queues.items place_of) ∙ ap length places ∙ length-map ids _
-
-  pub fresh_state : state_of f ≡ fresh ids f.hold f.depth
-  fresh_state = same_state (ap ids_of places ∙ ids_empty ids) refl refl places_now
-
-  pub fresh_whole : 0 < length ids → length ids ≤ 16 → are_apart ids ≡ true → 1 ≤ f.hold → f.hold ≤ 15 → 1 ≤ f.depth →
-      IsWhole f
-  fresh_whole some few apart one held deep = record {
-    next = (let l = len_now in omega (arith, l, some, next));
-    few = (let l = len_now in omega (arith, l, few));
+module _ (f : Inside) (ids : List ℕ) (order : f.order.items ≡ ids) (places : places_of f.queues.items ≡ empty ids)
+    (rooms : rooms_of f.queues.items ≡ map (λ _. f.depth) ids) where
+  pub fresh_whole : length ids ≤ 16 → are_apart ids ≡ true → 1 ≤ f.hold → f.hold ≤ 15 → 1 ≤ f.depth → IsWhole f
+  fresh_whole few apart one held deep = record {
+    few = subst (λ l. length l ≤ 16) (sym order) few;
+    apart = subst (λ l. Apart (empty l)) (sym order) (apart_empty ids apart);
+    many = sym (length-map f.queues.items place_of) ∙ ap length places ∙ length-map ids _ ∙ ap length (sym order);
+    same = λ x. ap (count x) places ∙ ap (λ l. count x (empty l)) (sym order);
     rooms = subst (AllByRecursion (λ room. room ≡ f.depth)) (sym rooms) (rooms_same f.depth ids);
     short = subst (AreShort f.depth) (sym places) (empty_short f.depth ids);
     some = one;
     held = held;
     deep = deep;
-    apart = subst Apart (sym places) (apart_empty ids apart);
-    bounded = subst (AreBounded f.hold) (sym places_now) (bounded_empty f.hold ids);
+    bounded = subst (AreBounded f.hold) (sym places) (bounded_empty f.hold ids);
   }
 
 -- no place has bytes exactly where no first one is found
@@ -218,11 +256,18 @@ some_loaded ps f e =
     let c = ltb-true 0 (length f.place.queue) g.2 in
     omega (arith, a, b, c)
 
-pub empty_is : (n : ℕ) (ps : List Place) (r : Option ℕ) (b : Bool) → is_some r ≡ not b →
-    IfNone r (first_busy (round n ps) ≡ None) → IfSome r (λ place. IsNextBusy n ps place) →
-    (IsTrue b → load (round n ps) ≡ 0) × (load (round n ps) ≡ 0 → IsTrue b)
-empty_is n ps None true e none some = (λ t. none_loaded (round n ps) none, λ e. refl)
-empty_is n ps None false e none some = absurd (cc)
-empty_is n ps (Some at) true e none some = absurd (cc)
-empty_is n ps (Some at) false e none some =
-    (λ t. absurd (cc), λ e. absurd (let l = some_loaded (round n ps) _ some.found in omega (arith, l, e)))
+pub empty_is : (qs read : List Queue) (r : Option ℕ) (b : Bool) → read ≡ qs →
+    r ≡ position (λ q. is_busy (place_of q)) read → is_some r ≡ not b →
+    (IsTrue b → load (places_of qs) ≡ 0) × (load (places_of qs) ≡ 0 → IsTrue b)
+empty_is qs read r b a k e =
+    by r b (k ∙ ap (λ (l : List Queue). position (λ q. is_busy (place_of q)) l) a) e where
+      by : (r : Option ℕ) (b : Bool) → r ≡ position (λ q. is_busy (place_of q)) qs → is_some r ≡ not b →
+          (IsTrue b → load (places_of qs) ≡ 0) × (load (places_of qs) ≡ 0 → IsTrue b)
+      by None true k e = (λ t. none_loaded (places_of qs) (position_none qs k), λ l. refl)
+      by None false k e = absurd (cc)
+      by (Some i) true k e = absurd (cc)
+      by (Some i) false k e = (
+        λ t. absurd (cc),
+        λ l. absurd (
+            let f = position_first qs i k in let m = some_loaded (places_of qs) _ f.found in omega (arith, m, l)),
+      )

@@ -7,7 +7,7 @@ mod Shortness
 pub mod Acting
 mod Finding
 mod Serving
-mod Rounding
+mod Owning
 mod Fields
 mod Offering
 pub mod Counting

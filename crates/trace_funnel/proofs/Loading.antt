@@ -1,6 +1,6 @@
 -- How many bytes wait in a funnel.
 use Rattle.std.proofs.Common.{◌≡◌, ℕ, zero, suc, ◌+◌, ◌*◌, ◌≤◌, List, [], ◌∷◌, ◌++◌, length, length-append, map, take}
-use Rattle.std.proofs.Common.{drop, Bool, true, false, cond, refl, sym, ap, subst, arith, suc-mul, Option, None, Some}
+use Rattle.std.proofs.Common.{drop, Bool, true, false, cond, refl, ◌∙◌, ap, subst, arith, suc-mul, Option, None, Some}
 use Rattle.std.specs.Prelude.{◌==◌}
 use Rattle.std.proofs.lemmas.List.{take-append-drop, length-map}
 use Rattle.trace_funnel.specs.declared.funnel.Funnel.TheInside.{Inside}
@@ -9,7 +9,7 @@ use Rattle.trace_funnel.specs.Turns.{Place, Found, first_busy, waits, served, lo
 use Rattle.trace_funnel.specs.Turns.{turn, turns_while, put, is_full, load, empty}
 use Rattle.trace_funnel.specs.Kept.{count}
 use Rattle.trace_funnel.specs.State.{State, with_places, id_at, HasPlace}
-use Rattle.trace_funnel.specs.Queues.{places_of, round}
+use Rattle.trace_funnel.specs.Queues.{place_of, places_of}
 use Rattle.trace_funnel.specs.Inside.{state_of, IsWhole}
 use Rattle.trace_funnel.proofs.Places.{IsFound, found}
 use Rattle.trace_funnel.proofs.Turning.{turn_and, stay}
@@ -90,16 +90,9 @@ short_load depth (p ∷ ps) short =
     let all : length (p ∷ ps) * depth ≡ length ps * depth + depth = suc-mul (length ps) depth in
     omega (arith, one, more, all)
 
-round_load : (n : ℕ) (ps : List Place) → load (round n ps) ≡ load ps
-round_load n ps =
-    let a = load_append (drop n ps) (take n ps) in
-    let b = load_append (take n ps) (drop n ps) in
-    let c = ap load (take-append-drop n ps) in
-    omega (arith, a, b, c)
-
 pub few_wait : (f : Inside) → IsWhole f →
     load (state_of f).places ≤ length (state_of f).order * (state_of f).depth
 few_wait f whole =
     let ps = places_of f.queues.items in
-    subst (λ n. load (state_of f).places ≤ n * f.depth) (sym (length-map ps (λ (p : Place). p.id)))
-    (subst (λ n. n ≤ length ps * f.depth) (sym (round_load f.next ps)) (short_load f.depth ps whole.short))
+    subst (λ n. load ps ≤ n * f.depth) (length-map f.queues.items place_of ∙ whole.many)
+    (short_load f.depth ps whole.short)

@@ -1,13 +1,17 @@
 -- The place of a source in an order.
 use Rattle.std.proofs.Common.{◌≡◌, ℕ, suc, ◌+◌, ◌<◌, ◌≤◌, List, [], ◌∷◌, length, Bool, true, false, cond, nat_lt, refl}
-use Rattle.std.proofs.Common.{sym, ◌∙◌, ap, subst, arith, Option, None, Some, ◌⊎◌, inl, inr}
+use Rattle.std.proofs.Common.{map, sym, ◌∙◌, ap, subst, arith, Option, None, Some, ◌⊎◌, inl, inr}
 use Rattle.std.specs.Prelude.{◌==◌, ◌||◌, not, position, is_some, slice_index}
 use Rattle.std.specs.List.{list_any, prefix_len}
 use Rattle.std.proofs.lemmas.Bool.{cases_lt, lt-ltb, le-ltb, eqb-true}
 use Rattle.std.proofs.lemmas.List.{length-map}
 use Rattle.trace_funnel.specs.declared.queue.Queue.{Queue}
 use Rattle.trace_funnel.specs.Turns.{Place}
-use Rattle.trace_funnel.specs.Queues.{place_of, places_of, ids_of}
+use Rattle.trace_funnel.specs.Queues.{place_of, places_of}
+
+-- the IDs of places
+abbrev pub ids_of : List Place → List ℕ
+ids_of ps = map (λ p. p.id) ps
 
 abbrev others : ℕ → List ℕ → ℕ
 others id ids = prefix_len (λ x. not (x == id)) ids

@@ -1,10 +1,10 @@
 -- No queue has more bytes than it may have.
 use Rattle.std.proofs.Common.{◌≡◌, ℕ, ◌<◌, ◌≤◌, List, [], ◌∷◌, ◌++◌, length, length-append, length-drop}
-use Rattle.std.proofs.Common.{map, take, sym, ap, subst, arith}
+use Rattle.std.proofs.Common.{map, take, sym, ap, subst, arith, Option, None, Some, Bool, true, false, cond}
+use Rattle.std.specs.Prelude.{◌==◌}
 use Rattle.std.specs.List.{AllByRecursion}
-use Rattle.trace_funnel.specs.Turns.{Place, waits, served, longer, empty}
-use Rattle.trace_funnel.specs.Queues.{after_turn}
-use Rattle.trace_funnel.proofs.Places.{waits_at}
+use Rattle.trace_funnel.specs.Turns.{Place, Found, first_busy, waits, served, longer, empty, turn_of, turn, queue_of}
+use Rattle.trace_funnel.proofs.Places.{waits_at, IsFound, found}
 
 -- what holds of two lists holds of both, one after the other
 module _ {X : Type 0} (P : X → Type 0) where
@@ -32,15 +32,19 @@ module _ (depth : ℕ) where
   waits_short n (p ∷ ps) h =
       (subst (λ (l : List ℕ). length l ≤ depth) (sym (waits_at n p).1) h.0, waits_short n ps h.1)
 
-  pub turn_short : (hold : ℕ) (front : List Place) (p : Place) (back : List Place) → AreShort (front ++ (p ∷ back)) →
-      AreShort (after_turn hold front p back)
-  turn_short hold front p back h =
-      let n = length (take hold p.queue) in
-      let parts = parted IsShort front (p ∷ back) h in
-      let less = length-drop hold p.queue in
-      let one = parts.1.0 in
-      joined IsShort (map (waits n) front) (served hold p ∷ map (waits n) back) (waits_short n front parts.0)
-      (omega (arith, less, one), waits_short n back parts.1.1)
+  pub turn_short : (hold : ℕ) (ps : List Place) → AreShort ps → AreShort (turn hold ps).places
+  turn_short hold ps h = by (first_busy ps) (found ps) where
+    by : (o : Option Found) → IsFound ps o → AreShort (turn_of hold ps o).places
+    by None f = h
+    by (Some f) g =
+        let n = length (take hold f.place.queue) in
+        let parts = parted IsShort f.before (f.place ∷ f.behind) (subst AreShort g.0 h) in
+        let less = length-drop hold f.place.queue in
+        let one = parts.1.0 in
+        joined IsShort (map (waits n) f.behind) (map (waits n) f.before ++ served hold f.place ∷ [])
+        (waits_short n f.behind parts.1.1)
+        (joined IsShort (map (waits n) f.before) (served hold f.place ∷ []) (waits_short n f.before parts.0)
+        (omega (arith, less, one), tt))
 
   pub put_short : (front : List Place) (p q : Place) (back : List Place) (byte : ℕ) → q ≡ longer byte p →
       length p.queue < depth → AreShort (front ++ (p ∷ back)) → AreShort (front ++ (q ∷ back))
@@ -49,3 +53,11 @@ module _ (depth : ℕ) where
       let one = ap (λ (r : Place). length r.queue) e in
       let more = length-append p.queue (byte ∷ []) in
       joined IsShort front (q ∷ back) parts.0 (omega (arith, one, more, room), parts.1.1)
+
+  -- nor has that of an ID
+  pub queue_short : (x : ℕ) (ps : List Place) → AreShort ps → length (queue_of x ps) ≤ depth
+  queue_short x [] h = omega arith
+  queue_short x (p ∷ ps) h = by (p.id == x) (queue_short x ps h.1) where
+    by : (t : Bool) → length (queue_of x ps) ≤ depth → length (cond t p.queue (queue_of x ps)) ≤ depth
+    by true i = h.0
+    by false i = i

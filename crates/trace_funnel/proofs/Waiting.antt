@@ -1,10 +1,12 @@
 -- How long places wait.
-use Rattle.std.proofs.Common.{◌≡◌, ℕ, zero, suc, ◌+◌, ◌-◌, ◌*◌, ◌≤◌, List, [], ◌∷◌, ◌++◌, length, length-append}
+use Rattle.std.proofs.Common.{◌≡◌, ℕ, zero, suc, ◌+◌, ◌-◌, ◌*◌, ◌^◌, ◌≤◌, List, [], ◌∷◌, ◌++◌, length, length-append}
 use Rattle.std.proofs.Common.{map, take, Bool, true, false, cond, nat_lt, refl, sym, ◌∙◌, ap, subst, arith}
 use Rattle.std.proofs.Common.{Option, None, Some}
 use Rattle.std.specs.Prelude.{◌==◌}
+use Rattle.std.specs.List.{AllByRecursion}
 use Rattle.std.proofs.lemmas.Bool.{lt-ltb}
 use Rattle.std.proofs.lemmas.List.{length-map}
+use Rattle.std.proofs.lemmas.Nat.{mul-le}
 use Rattle.std.proofs.Math.Nat.{mul-le-mul_right}
 use Rattle.trace_funnel.specs.Turns.{Place, is_busy, Found, first_busy, waits, served, longer}
 use Rattle.trace_funnel.specs.Turns.{turn_of, turn, queue_of, waited_of, put}
@@ -114,3 +116,12 @@ waited_idle hold x (p ∷ ps) b e = by (p.id == x) e (waited_idle hold x ps b.2)
       cond t p.waited (waited_of x ps) ≡ 0
   by true e i = b.1 (ap (λ (l : List ℕ). nat_lt 0 (length l)) e)
   by false e i = i e
+
+-- no place waits for long
+pub all_few : (hold : ℕ) (ps : List Place) → AreBounded hold ps → length ps ≤ 16 → hold ≤ 15 →
+    AllByRecursion (λ (p : Place). p.waited ≤ 2 ^ 32) ps
+all_few hold [] b l h = tt
+all_few hold (p ∷ ps) b l h =
+    let m = mul-le (length ps) hold 16 15 (omega (arith, l)) h in
+    let w = b.0 in
+    (omega (arith, m, w), all_few hold ps b.2 (omega (arith, l)) h)

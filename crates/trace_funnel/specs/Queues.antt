@@ -1,7 +1,8 @@
 -- What the queues of a funnel stand for.
-use Rattle.std.specs.Prelude.{◌≡◌, ℕ, List, ◌∷◌, ◌++◌, length, map, take, drop, Some}
+use Rattle.std.specs.Prelude.{◌≡◌, ℕ, List, ◌∷◌, ◌++◌, length, map, take}
+use Rattle.std.specs.List.{AllByRecursion}
 use Rattle.trace_funnel.specs.declared.queue.Queue.{Queue}
-use Rattle.trace_funnel.specs.Turns.{Place, first_busy, waits, served}
+use Rattle.trace_funnel.specs.Turns.{Place, waits, served}
 
 -- the place of a queue
 abbrev pub place_of : Queue → Place
@@ -17,25 +18,9 @@ room_of q = q.bytes.capacity
 abbrev pub rooms_of : List Queue → List ℕ
 rooms_of qs = map room_of qs
 
--- the IDs of places
-abbrev pub ids_of : List Place → List ℕ
-ids_of ps = map (λ p. p.id) ps
-
--- a list from this place on, going round
-abbrev pub round : {A : Type 0} → ℕ → List A → List A
-round n xs = drop n xs ++ take n xs
-
--- The place of number `at` is the first that has bytes, from place n on, going round: it stands between these.
-pub record IsNextBusy (n : ℕ) (ps : List Place) (at : ℕ) : Type 0 where
-  pub front : List Place
-  pub place : Place
-  pub back : List Place
-  pub parts : ps ≡ front ++ (place ∷ back)
-  pub number : length front ≡ at
-  pub before : List Place
-  pub behind : List Place
-  pub found : first_busy (round n ps) ≡ Some (record { before = before; place = place; behind = behind })
-  pub others : behind ++ before ≡ back ++ front
+-- each may have so many
+abbrev pub HaveRoom : ℕ → List Queue → Type 0
+HaveRoom depth qs = AllByRecursion (λ room. room ≡ depth) (rooms_of qs)
 
 -- the places in their order after a turn of p, which stands between these
 abbrev pub after_turn : ℕ → List Place → Place → List Place → List Place

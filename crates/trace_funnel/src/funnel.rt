@@ -1,13 +1,13 @@
 //! A funnel.
 
 ghost use Rattle.std.specs.Prelude.{◌≡◌, ◌==◌, ◌≤◌, ◌<◌, ◌+◌, ◌-◌, ◌*◌, ◌++◌, ◌↔◌, [], length, true, false};
-ghost use Rattle.std.specs.Prelude.{IsTrue, IfOk, if◌then◌else◌, position};
+ghost use Rattle.std.specs.Prelude.{IsTrue, IfOk, position};
 ghost use Rattle.arrayvec.specs.ArrayVec.{array_vec_len};
 ghost use Rattle.trace_funnel.specs.Turns.{is_full, put, load};
 ghost use Rattle.trace_funnel.specs.Order.{are_apart};
 ghost use Rattle.trace_funnel.specs.State.{fresh, with_places, turn_by, offer_by, HasPlace, id_at, queue_at, waited_at};
 
-use crate::queue::{MOST_HELD, Queue, next_busy, place_in, queues_of, serve};
+use crate::queue::{MOST_HELD, Queue, first_busy, queue_in, queues_of, turn};
 use crate::tagged::Tagged;
 use arrayvec::ArrayVec;
 use std::alloc::{AllocError, Global};
@@ -20,22 +20,14 @@ use trace_values::SourceId;
 /// and the place whose turn is next.
 #[derive(Drop)]
 pub struct Funnel {
-    // One for each place, in the order.
+    // The source of each place.
+    order: Vec<SourceId>,
+    // One for each place, from the one on whose turn is next, going round.
     queues: Vec<Queue>,
-    // The place from which on the next turn looks for bytes.
-    next: usize,
     // The most bytes that a turn gives.
     hold: usize,
     // The most bytes of a queue.
     depth: usize,
-}
-
-/// The place behind one of so many, going round.
-fn behind(place: usize, count: usize) -> usize
-    requires { place < count }
-    ensures { result ≡ (if place + 1 == count then 0 else place + 1) }
-{
-    if place + 1 == count { 0 } else { place + 1 }
 }
 
 impl Model for Funnel {
@@ -67,9 +59,10 @@ impl Funnel {
         ensures { IfOk result (λ f. f ≡ fresh order.now.items hold depth) }
     {
         let queues = queues_of(alloc, order.as_slice(), depth)?;
+        let order = Vec::from_slice(alloc, order.as_slice())?;
         Ok(Funnel {
+            order,
             queues,
-            next: 0,
             hold: hold as usize,
             depth,
         })
@@ -79,7 +72,7 @@ impl Funnel {
     pub fn place(&self, id: SourceId) -> Option<usize>
         ensures { result ≡ position (λ x. x == id) self.now.order }
     {
-        place_in(self.queues.as_slice(), id)
+        self.order.iter().position(|source| *source == id)
     }
 
     /// Offers a byte of the source that has this place. Where its queue is full, turns come first until it isn't: at
@@ -113,7 +106,7 @@ impl Funnel {
     pub fn is_empty(&self) -> bool
         ensures { IsTrue result ↔ (load self.now.places ≡ 0) }
     {
-        next_busy(self.queues.as_slice(), self.next).is_none()
+        first_busy(self.queues.as_slice()).is_none()
     }
 
     /// How many bytes other places gave since this one's last turn, or since its queue has bytes, whichever was later:
@@ -124,7 +117,10 @@ impl Funnel {
         ensures bound { result ≤ (length self.now.order - 1) * self.now.hold }
         ensures idle { queue_at self.now place ≡ [] → result ≡ 0 }
     {
-        self.queues[place].waited
+        match queue_in(self.queues.as_slice(), self.order[place]) {
+            Some(index) => self.queues[index].waited,
+            None => 0,
+        }
     }
 
     // Whether the queue of this place has as many bytes as it may have.
@@ -133,7 +129,10 @@ impl Funnel {
         ensures full { result ≡ is_full self.now.depth (id_at self.now place) self.now.places }
         ensures has { HasPlace self.now place }
     {
-        self.queues[place].bytes.len() == self.depth
+        match queue_in(self.queues.as_slice(), self.order[place]) {
+            Some(index) => self.queues[index].bytes.len() == self.depth,
+            None => false,
+        }
     }
 
     // Puts a byte into the queue of this place, which has room for it.
@@ -143,7 +142,9 @@ impl Funnel {
         ensures places { self.new ≡ with_places self.old (put (id_at self.old place) byte self.old.places) }
         ensures few { load self.new.places ≤ length self.new.order * self.new.depth }
     {
-        self.queues[place].put(byte);
+        if let Some(index) = queue_in(self.queues.as_slice(), self.order[place]) {
+            self.queues[index].put(byte);
+        }
     }
 
     // Makes a turn, and appends what it gives.
@@ -153,9 +154,6 @@ impl Funnel {
         ensures len { array_vec_len out.new ≤ array_vec_len out.old + MOST_HELD }
         ensures places { self.new ≡ with_places self.old (turn_by self.old).places }
     {
-        if let Some(place) = next_busy(self.queues.as_slice(), self.next) {
-            serve(self.queues.as_mut_slice(), place, self.hold, out);
-            self.next = behind(place, self.queues.len());
-        }
+        turn(self.queues.as_mut_slice(), self.hold, out);
     }
 }

@@ -1,9 +1,9 @@
 //! The queues of a funnel, one for each place.
 
-ghost use Rattle.std.specs.Prelude.{◌≡◌, ◌≤◌, ◌<◌, ◌+◌, ◌^◌, ◌++◌, [], length, map, position, ◌==◌, IfOk, None};
+ghost use Rattle.std.specs.Prelude.{◌≡◌, ◌≤◌, ◌<◌, ◌+◌, ◌^◌, ◌++◌, [], length, map, position, ◌==◌, IfOk, IfSome};
 ghost use Rattle.std.specs.List.{AllByRecursion};
 ghost use Rattle.arrayvec.specs.ArrayVec.{array_vec_len};
-ghost use Rattle.trace_funnel.specs.Turns.{is_busy, waits, served, given, longer, tagged, first_busy};
+ghost use Rattle.trace_funnel.specs.Turns.{is_busy, waits, served, given, longer, tagged, turn};
 
 use crate::tagged::Tagged;
 use arrayvec::ArrayVec;
@@ -93,9 +93,9 @@ impl Queue {
     }
 }
 
-ghost use Rattle.std.specs.Prelude.{List, ◌∷◌, IfNone, IfSome};
+ghost use Rattle.std.specs.Prelude.{List, ◌∷◌, ℕ};
 ghost use Rattle.trace_funnel.specs.Turns.{Place, empty};
-ghost use Rattle.trace_funnel.specs.Queues.{place_of, places_of, rooms_of, round, IsNextBusy, after_turn};
+ghost use Rattle.trace_funnel.specs.Queues.{place_of, places_of, rooms_of, after_turn, HaveRoom};
 
 /// The empty queues of these sources, in this order, each with the memory for so many bytes.
 pub fn queues_of(alloc: Global, order: &[SourceId], depth: usize) -> Result<Vec<Queue>, AllocError>
@@ -111,7 +111,7 @@ pub fn queues_of(alloc: Global, order: &[SourceId], depth: usize) -> Result<Vec<
 }
 
 /// Which of these is the first that has bytes.
-fn first_busy_of(queues: &[Queue]) -> Option<usize>
+pub fn first_busy(queues: &[Queue]) -> Option<usize>
     ensures value { result ≡ position (λ q. is_busy (place_of q)) queues.now }
     ensures within { IfSome result (λ index. index < length queues.now) }
 {
@@ -119,23 +119,11 @@ fn first_busy_of(queues: &[Queue]) -> Option<usize>
 }
 
 /// Which of these is the first of this source.
-pub fn place_in(queues: &[Queue], id: SourceId) -> Option<usize>
-    ensures { result ≡ position (λ q. q.id == id) queues.now }
+pub fn queue_in(queues: &[Queue], id: SourceId) -> Option<usize>
+    ensures value { result ≡ position (λ q. q.id == id) queues.now }
+    ensures within { IfSome result (λ index. index < length queues.now) }
 {
     queues.iter().position(|queue| queue.id == id)
-}
-
-/// Which of these is the first that has bytes, from `next` on, going round.
-pub fn next_busy(queues: &[Queue], next: usize) -> Option<usize>
-    requires { next ≤ length queues.now }
-    ensures none { IfNone result (first_busy (round next (places_of queues.now)) ≡ None) }
-    ensures some { IfSome result (λ place. IsNextBusy next (places_of queues.now) place) }
-{
-    let (before, from) = queues.split_at(next);
-    match first_busy_of(from) {
-        Some(index) => Some(next + index),
-        None => first_busy_of(before),
-    }
 }
 
 /// All that have bytes wait while another gives so many.
@@ -152,7 +140,7 @@ fn wait_all(queues: &mut [Queue], count: u64)
 }
 
 /// The queue of this place gives its first bytes, at most so many, and all others wait while it does.
-pub fn serve<const N: usize>(
+fn serve<const N: usize>(
     queues: &mut [Queue],
     place: usize,
     hold: usize,
@@ -172,4 +160,22 @@ pub fn serve<const N: usize>(
     let count = hold.min(queues[place].bytes.len());
     wait_all(queues, count as u64);
     queues[place].give(hold, out);
+}
+
+/// Makes a turn: the first that has bytes gives its first ones, at most so many, and then it and those before it go
+/// behind the others.
+pub fn turn<const N: usize>(queues: &mut [Queue], hold: usize, out: &mut ArrayVec<Tagged, N>)
+    requires hold { hold ≤ MOST_HELD }
+    requires few { AllByRecursion (λ p. p.waited ≤ 2 ^ 32) (places_of queues.old) }
+    requires room { array_vec_len out.old + hold ≤ N }
+    ensures given { out.new.items ≡ out.old.items ++ (turn hold (places_of queues.old)).out }
+    ensures places { places_of queues.new ≡ (turn hold (places_of queues.old)).places }
+    ensures len { array_vec_len out.new ≤ array_vec_len out.old + hold }
+    ensures rooms { (depth : ℕ) → HaveRoom depth queues.old → HaveRoom depth queues.new }
+{
+    let Some(place) = first_busy(queues) else {
+        return;
+    };
+    serve(queues, place, hold, out);
+    queues.rotate_left(place + 1);
 }
