@@ -1,18 +1,18 @@
 -- What the fields of a funnel say of its places.
-use Rattle.std.proofs.Common.{◌≡◌, ℕ, zero, suc, ◌+◌, ◌-◌, ◌*◌, ◌^◌, ◌<◌, ◌≤◌, List, [], ◌∷◌, ◌++◌, length, map, Bool}
+use Rattle.std.proofs.Common.{◌≡◌, ℕ, zero, suc, ◌+◌, ◌-◌, ◌*◌, ◌^◌, ◌<◌, ◌≤◌, List, [], ◌∷◌, length, map, Bool}
 use Rattle.std.proofs.Common.{true, false, cond, nat_lt, refl, sym, ◌∙◌, ap, subst, arith, get_or}
-use Rattle.std.proofs.Common.{set, Option, None, Some, ◌⊎◌, inl, inr}
+use Rattle.std.proofs.Common.{Option, None, Some, ◌⊎◌, inl, inr}
 use Rattle.std.specs.Prelude.{◌==◌, not, nat_eq, is_some, position, IsTrue}
 use Rattle.std.specs.List.{AllByRecursion}
 use Rattle.std.proofs.lemmas.Bool.{cases_lt, eq-eqb, ne_eqb, lt-ltb, le-ltb, ltb-true}
-use Rattle.std.proofs.lemmas.List.{length-map, get_or-map, length-set}
+use Rattle.std.proofs.lemmas.List.{length-map}
 use Rattle.trace_funnel.specs.declared.queue.Queue.{Queue}
 use Rattle.trace_funnel.specs.declared.funnel.Funnel.TheInside.{Inside}
-use Rattle.trace_funnel.specs.Turns.{Place, Found, first_busy, longer, put, is_full, load, queue_of, waited_of, empty}
+use Rattle.trace_funnel.specs.Turns.{Place, Found, first_busy, put, is_full, load, queue_of, waited_of, empty}
 use Rattle.trace_funnel.specs.Turns.{turn, is_busy}
 use Rattle.trace_funnel.specs.Kept.{count, Apart, AreBounded}
 use Rattle.trace_funnel.specs.Order.{are_apart}
-use Rattle.trace_funnel.specs.State.{fresh, with_places, HasPlace, turn_by}
+use Rattle.trace_funnel.specs.State.{HasPlace}
 use Rattle.trace_funnel.specs.Queues.{place_of, places_of, room_of, rooms_of, HaveRoom}
 use Rattle.trace_funnel.specs.Inside.{state_of, IsWhole}
 use Rattle.trace_funnel.proofs.Places.{IsFound, found}
@@ -20,16 +20,9 @@ use Rattle.trace_funnel.proofs.Finding.{position_first, position_none}
 use Rattle.trace_funnel.proofs.Emptying.{idle_load, load_append}
 use Rattle.trace_funnel.proofs.Turning.{count_put, counts_turn}
 use Rattle.trace_funnel.proofs.Waiting.{put_bounded, turn_bounded, waited_few, waited_idle, all_few}
-use Rattle.trace_funnel.proofs.Acting.{apart_empty, bounded_empty, none_of, length_turn}
+use Rattle.trace_funnel.proofs.Acting.{apart_empty, bounded_empty, length_turn}
 use Rattle.trace_funnel.proofs.Shortness.{AreShort, empty_short, put_short, turn_short, queue_short}
-use Rattle.trace_funnel.proofs.Serving.{map_split, map_set, front_of, back_of, map_same}
-use Rattle.trace_funnel.proofs.Owning.{queue_there, waited_there, put_there}
-use Rattle.trace_funnel.proofs.Placing.{ids_of, place_is, place_at, has_place_is}
-
-all_at : (P : ℕ → Type 0) (xs : List ℕ) (i d : ℕ) → AllByRecursion P xs → i < length xs → P (get_or xs i d)
-all_at P [] i d a h = absurd (omega arith)
-all_at P (x ∷ xs) zero d a h = a.0
-all_at P (x ∷ xs) (suc i) d a h = all_at P xs i d a.1 (omega (arith, h))
+use Rattle.trace_funnel.proofs.Nearing.{full_short}
 
 -- what is at an index has nothing to do with what stands for none
 any_none : (xs : List ℕ) (i d e : ℕ) → i < length xs → get_or xs i d ≡ get_or xs i e
@@ -49,17 +42,11 @@ some_at (x ∷ ids) (suc n) h = by (x == get_or ids n 0) (some_at ids n (omega (
   by true e = omega arith
   by false e = e
 
--- the IDs alone say how many places each has
-count_is : (x : ℕ) (ps : List Place) → count x ps ≡ count x (empty (ids_of ps))
-count_is x [] = refl
-count_is x (p ∷ ps) = ap (λ m. cond (p.id == x) (m + 1) m) (count_is x ps)
-
--- where no queue of a source is found, it has no place
-absent : (id : ℕ) (qs : List Queue) → None ≡ position (λ q. q.id == id) qs → count id (places_of qs) ≡ 0
-absent id qs e =
-    count_is id (places_of qs)
-    ∙ none_of id (ids_of (places_of qs))
-    (sym (has_place_is id (ids_of (places_of qs))) ∙ ap is_some (sym (e ∙ place_is id qs)))
+-- fewer than each queue may have
+all_rooms : (depth n : ℕ) → n < depth → (rooms : List ℕ) → AllByRecursion (λ room. room ≡ depth) rooms →
+    AllByRecursion (λ room. n < room) rooms
+all_rooms depth n l [] a = tt
+all_rooms depth n l (room ∷ rooms) a = (let e = a.0 in omega (arith, l, e), all_rooms depth n l rooms a.1)
 
 -- the place of this number
 module _ (f : Inside) (whole : IsWhole f) (place : ℕ) (h : place < length f.order.items) where
@@ -86,112 +73,58 @@ module _ (f : Inside) (whole : IsWhole f) (place : ℕ) (h : place < length f.or
     deep = whole.deep;
   }
 
-  -- what a search for its source found
-  pub seek : (source : ℕ) (read : List Queue) (r : Option ℕ) → source ≡ get_or f.order.items place source → read ≡ qs →
-      r ≡ position (λ q. q.id == source) read → r ≡ position (λ q. q.id == id) qs
-  seek source read r e a k =
-      k ∙ ap (λ (l : List Queue). position (λ q. q.id == source) l) a
-      ∙ ap (λ x. position (λ (q : Queue). q.id == x) qs) (e ∙ any_none f.order.items place source 0 h)
+  -- the source that was asked for
+  pub source_is : (source : ℕ) → source ≡ get_or f.order.items place source → source ≡ id
+  source_is source e = e ∙ any_none f.order.items place source 0 h
 
-  -- its queue is there
-  pub there : None ≡ position (λ q. q.id == id) qs → ⊥
-  there e = let a = absent id qs e in let b = one_is in omega (arith, a, b)
+  pub full_is : nat_eq (length (queue_of id (places_of qs))) f.depth ≡ is_full f.depth id (places_of qs)
+  full_is = by (cases_lt (length (queue_of id (places_of qs))) f.depth) where
+    by : ((length (queue_of id (places_of qs)) < f.depth) ⊎ (f.depth ≤ length (queue_of id (places_of qs)))) →
+        nat_eq (length (queue_of id (places_of qs))) f.depth ≡ not (nat_lt (length (queue_of id (places_of qs))) f.depth)
+    by (inl less) =
+        ne_eqb (length (queue_of id (places_of qs))) f.depth (λ e. omega (arith, e, less))
+        ∙ sym (ap not (lt-ltb (length (queue_of id (places_of qs))) f.depth less))
+    by (inr more) =
+        eq-eqb (length (queue_of id (places_of qs))) f.depth
+        (let s = queue_short f.depth id (places_of qs) whole.short in omega (arith, s, more))
+        ∙ sym (ap not (le-ltb (length (queue_of id (places_of qs))) f.depth more))
 
-  pub apart : Apart (places_of qs)
-  apart x = let a = whole.same x in let b = whole.apart x in omega (arith, a, b)
+  pub room_left : is_full f.depth id (places_of qs) ≡ false →
+      AllByRecursion (λ room. length (queue_of id (places_of qs)) < room) (rooms_of qs)
+  room_left e = all_rooms f.depth (length (queue_of id (places_of qs))) (full_short f.depth id (places_of qs) e)
+      (rooms_of qs) whole.rooms
 
-  -- at this index
-  module _ (index : ℕ) (q : Queue) (found_at : Some index ≡ position (λ q. q.id == id) qs) (within : index < length qs)
-      (is : q ≡ get_or qs index q) where
-    id_is : q.id ≡ id
-    id_is =
-        ap (λ (y : Queue). y.id) is ∙ sym (ap (λ (p : Place). p.id) (get_or-map place_of qs index q (place_of q) within))
-        ∙ sym (get_or-map (λ (p : Place). p.id) (places_of qs) index (place_of q) 0
-        (let b = length-map qs place_of in omega (arith, b, within)))
-        ∙ (place_at id (ids_of (places_of qs)) index (sym (found_at ∙ place_is id qs))).1
+  pub bound_is : waited_of id (places_of qs) ≤ (length f.order.items - 1) * f.hold
+  bound_is =
+      subst (λ n. waited_of id (places_of qs) ≤ (n - 1) * f.hold) many
+      (waited_few f.hold id (places_of qs) whole.bounded)
 
-    parts : places_of qs ≡ front_of place_of qs index within ++ (place_of q ∷ back_of place_of qs index within)
-    parts = map_split place_of qs index within q is
+  pub idle_is : queue_of id (places_of qs) ≡ [] → waited_of id (places_of qs) ≡ 0
+  idle_is e = waited_idle f.hold id (places_of qs) whole.bounded e
 
-    pub queue_is : queue_of id (places_of qs) ≡ q.bytes.items
-    queue_is =
-        ap (λ x. queue_of x (places_of qs)) (sym id_is) ∙ queue_there (places_of qs) _ _ (place_of q) parts apart
-
-    pub waited_is : waited_of id (places_of qs) ≡ q.waited
-    waited_is =
-        ap (λ x. waited_of x (places_of qs)) (sym id_is) ∙ waited_there (places_of qs) _ _ (place_of q) parts apart
-
-    room_is : room_of q ≡ f.depth
-    room_is =
-        ap room_of is ∙ sym (get_or-map room_of qs index q 0 within)
-        ∙ all_at (λ room. room ≡ f.depth) (rooms_of qs) index 0 whole.rooms
-        (let a = length-map qs room_of in omega (arith, a, within))
-
-    pub full_is : nat_eq (length q.bytes.items) f.depth ≡ is_full f.depth id (places_of qs)
-    full_is = by (cases_lt (length q.bytes.items) f.depth)
-        ∙ ap (λ n. not (nat_lt n f.depth)) (sym (ap length queue_is)) where
-          by : ((length q.bytes.items < f.depth) ⊎ (f.depth ≤ length q.bytes.items)) →
-              nat_eq (length q.bytes.items) f.depth ≡ not (nat_lt (length q.bytes.items) f.depth)
-          by (inl less) =
-              ne_eqb (length q.bytes.items) f.depth (λ e. omega (arith, e, less))
-              ∙ sym (ap not (lt-ltb (length q.bytes.items) f.depth less))
-          by (inr more) =
-              eq-eqb (length q.bytes.items) f.depth
-              (let s = has_place.short in let a = ap length queue_is in omega (arith, s, a, more))
-              ∙ sym (ap not (le-ltb (length q.bytes.items) f.depth more))
-
-    pub room_left : is_full f.depth id (places_of qs) ≡ false → length q.bytes.items < room_of q
-    room_left e = by (cases_lt (length q.bytes.items) f.depth) where
-      by : ((length q.bytes.items < f.depth) ⊎ (f.depth ≤ length q.bytes.items)) → length q.bytes.items < room_of q
-      by (inl less) = let r = room_is in omega (arith, r, less)
-      by (inr more) = absurd (
-          let full = ap (λ n. not (nat_lt n f.depth)) (ap length queue_is)
-          ∙ ap not (le-ltb (length q.bytes.items) f.depth more) in let wrong = sym e ∙ full in cc)
-
-    pub bound_is : q.waited ≤ (length f.order.items - 1) * f.hold
-    bound_is =
-        subst (λ n. n ≤ (length f.order.items - 1) * f.hold) waited_is
-        (subst (λ n. waited_of id (places_of qs) ≤ (n - 1) * f.hold) many
-        (waited_few f.hold id (places_of qs) whole.bounded))
-
-    pub idle_is : queue_of id (places_of qs) ≡ [] → q.waited ≡ 0
-    idle_is e = sym waited_is ∙ waited_idle f.hold id (places_of qs) whole.bounded e
-
-    -- a byte more in its queue
-    module _ (byte : ℕ) (new : Queue) (longer_is : place_of new ≡ longer byte (place_of q))
-        (same_room : room_of new ≡ room_of q) (g : Inside) (order : g.order ≡ f.order)
-        (queues : g.queues.items ≡ set qs index new) (hold : g.hold ≡ f.hold) (depth : g.depth ≡ f.depth) where
-      puts : places_of g.queues.items ≡ put id byte (places_of qs)
-      puts =
-          ap places_of queues ∙ map_set place_of qs index within new
-          ∙ ap (λ p. front_of place_of qs index within ++ (p ∷ back_of place_of qs index within)) longer_is
-          ∙ sym (put_there (places_of qs) _ _ (place_of q) parts apart byte)
-          ∙ ap (λ x. put x byte (places_of qs)) id_is
-
-      pub put_state : state_of g ≡ with_places (state_of f) (put id byte (places_of qs))
-      put_state = cc (puts)
-
-      pub put_whole : is_full f.depth id (places_of qs) ≡ false → IsWhole g
-      put_whole left = record {
-        few = subst (λ o. length o.items ≤ 16) (sym order) whole.few;
-        apart = subst (λ o. Apart (empty o.items)) (sym order) whole.apart;
-        many = ap length queues ∙ length-set qs index new ∙ whole.many ∙ ap (λ o. length o.items) (sym order);
-        same = λ x. ap (count x) puts ∙ count_put x id byte (places_of qs) ∙ whole.same x
-            ∙ ap (λ o. count x (empty o.items)) (sym order);
-        rooms = subst (λ n. HaveRoom n g.queues.items) (sym depth)
-            (subst (AllByRecursion (λ room. room ≡ f.depth)) (sym (ap rooms_of queues
-            ∙ map_same room_of qs index q new within is same_room)) whole.rooms);
-        short = subst (λ n. AreShort n (places_of g.queues.items)) (sym depth)
-            (subst (AreShort f.depth) (sym (ap places_of queues ∙ map_set place_of qs index within new))
-            (put_short f.depth _ (place_of q) (place_of new) _ byte longer_is
-            (let r = room_is in let room = room_left left in omega (arith, r, room))
-            (subst (AreShort f.depth) parts whole.short)));
-        some = (let n = whole.some in omega (arith, n, hold));
-        held = (let n = whole.held in omega (arith, n, hold));
-        deep = (let n = whole.deep in omega (arith, n, depth));
-        bounded = subst (λ n. AreBounded n (places_of g.queues.items)) (sym hold)
-            (subst (AreBounded f.hold) (sym puts) (put_bounded f.hold id byte (places_of qs) whole.bounded));
-      }
+  -- a byte more in its queue
+  pub put_whole : (byte : ℕ) (g : Inside) → g.order ≡ f.order → g.hold ≡ f.hold → g.depth ≡ f.depth →
+      places_of g.queues.items ≡ put id byte (places_of qs) → rooms_of g.queues.items ≡ rooms_of qs →
+      is_full f.depth id (places_of qs) ≡ false → IsWhole g
+  put_whole byte g order hold depth puts rooms left = record {
+    few = subst (λ o. length o.items ≤ 16) (sym order) whole.few;
+    apart = subst (λ o. Apart (empty o.items)) (sym order) whole.apart;
+    many = sym (length-map g.queues.items room_of) ∙ ap length rooms ∙ length-map qs room_of ∙ whole.many
+        ∙ ap (λ o. length o.items) (sym order);
+    same = λ x. ap (count x) puts ∙ count_put x id byte (places_of qs) ∙ whole.same x
+        ∙ ap (λ o. count x (empty o.items)) (sym order);
+    rooms = subst (λ n. HaveRoom n g.queues.items) (sym depth)
+        (subst (AllByRecursion (λ room. room ≡ f.depth)) (sym rooms) whole.rooms);
+    short = subst (λ n. AreShort n (places_of g.queues.items)) (sym depth)
+        (subst (AreShort f.depth) (sym puts)
+        (put_short f.depth id byte (places_of qs) (let a = one_is in omega (arith, a))
+        (full_short f.depth id (places_of qs) left) whole.short));
+    some = (let n = whole.some in omega (arith, n, hold));
+    held = (let n = whole.held in omega (arith, n, hold));
+    deep = (let n = whole.deep in omega (arith, n, depth));
+    bounded = subst (λ n. AreBounded n (places_of g.queues.items)) (sym hold)
+        (subst (AreBounded f.hold) (sym puts) (put_bounded f.hold id byte (places_of qs) whole.bounded));
+  }
 
 -- a turn
 module _ (f g : Inside) (whole : IsWhole f) (order : g.order ≡ f.order) (hold : g.hold ≡ f.hold)

@@ -7,7 +7,7 @@ mod Shortness
 pub mod Acting
 mod Finding
 mod Serving
-mod Owning
+mod Putting
 mod Fields
 mod Offering
 pub mod Counting

@@ -77,14 +77,8 @@ waited_seen : (x : ℕ) (ps : List Place) → waited_of x ps ≡ seen (λ p. p.w
 waited_seen x [] = refl
 waited_seen x (p ∷ ps) = ap (λ m. cond (p.id == x) p.waited m) (waited_seen x ps)
 
-pub queue_past : (x : ℕ) (a b : List Place) → count x a ≡ 0 → queue_of x (a ++ b) ≡ queue_of x b
-queue_past x a b h = queue_seen x (a ++ b) ∙ past (λ p. p.queue) [] x a b h ∙ sym (queue_seen x b)
-
 pub queue_swap : (x : ℕ) (a b : List Place) → count x (a ++ b) ≤ 1 → queue_of x (b ++ a) ≡ queue_of x (a ++ b)
 queue_swap x a b h = queue_seen x (b ++ a) ∙ swap (λ p. p.queue) [] x a b h ∙ sym (queue_seen x (a ++ b))
-
-pub waited_past : (x : ℕ) (a b : List Place) → count x a ≡ 0 → waited_of x (a ++ b) ≡ waited_of x b
-waited_past x a b h = waited_seen x (a ++ b) ∙ past (λ p. p.waited) 0 x a b h ∙ sym (waited_seen x b)
 
 pub waited_swap : (x : ℕ) (a b : List Place) → count x (a ++ b) ≤ 1 → waited_of x (b ++ a) ≡ waited_of x (a ++ b)
 waited_swap x a b h = waited_seen x (b ++ a) ∙ swap (λ p. p.waited) 0 x a b h ∙ sym (waited_seen x (a ++ b))

@@ -1,36 +1,12 @@
 -- The place of a source in an order.
 use Rattle.std.proofs.Common.{◌≡◌, ℕ, suc, ◌+◌, ◌<◌, ◌≤◌, List, [], ◌∷◌, length, Bool, true, false, cond, nat_lt, refl}
-use Rattle.std.proofs.Common.{map, sym, ◌∙◌, ap, subst, arith, Option, None, Some, ◌⊎◌, inl, inr}
+use Rattle.std.proofs.Common.{sym, ◌∙◌, ap, subst, arith, Option, None, Some, ◌⊎◌, inl, inr}
 use Rattle.std.specs.Prelude.{◌==◌, ◌||◌, not, position, is_some, slice_index}
 use Rattle.std.specs.List.{list_any, prefix_len}
 use Rattle.std.proofs.lemmas.Bool.{cases_lt, lt-ltb, le-ltb, eqb-true}
-use Rattle.std.proofs.lemmas.List.{length-map}
-use Rattle.trace_funnel.specs.declared.queue.Queue.{Queue}
-use Rattle.trace_funnel.specs.Turns.{Place}
-use Rattle.trace_funnel.specs.Queues.{place_of, places_of}
-
--- the IDs of places
-abbrev pub ids_of : List Place → List ℕ
-ids_of ps = map (λ p. p.id) ps
 
 abbrev others : ℕ → List ℕ → ℕ
 others id ids = prefix_len (λ x. not (x == id)) ids
-
-abbrev others_in : ℕ → List Queue → ℕ
-others_in id qs = prefix_len (λ q. not (q.id == id)) qs
-
-others_same : (id : ℕ) (qs : List Queue) → others id (ids_of (places_of qs)) ≡ others_in id qs
-others_same id [] = refl
-others_same id (q ∷ qs) = ap (λ n. cond (not (q.id == id)) (1 + n) 0) (others_same id qs)
-
--- a queue of this source is at the place of it
-pub place_is : (id : ℕ) (qs : List Queue) →
-    position (λ q. q.id == id) qs ≡ position (λ x. x == id) (ids_of (places_of qs))
-place_is id qs =
-    let len : length (ids_of (places_of qs)) ≡ length qs =
-    length-map (places_of qs) (λ (p : Place). p.id) ∙ length-map qs place_of in
-    sym (ap (λ n. cond (nat_lt n (length (ids_of (places_of qs)))) (Some n) None) (others_same id qs)
-    ∙ ap (λ m. cond (nat_lt (others_in id qs) m) (Some (others_in id qs)) None) len)
 
 one_more : (n : ℕ) → 1 + n ≡ suc n
 one_more n = omega arith

@@ -1,9 +1,10 @@
 -- No queue has more bytes than it may have.
-use Rattle.std.proofs.Common.{◌≡◌, ℕ, ◌<◌, ◌≤◌, List, [], ◌∷◌, ◌++◌, length, length-append, length-drop}
-use Rattle.std.proofs.Common.{map, take, sym, ap, subst, arith, Option, None, Some, Bool, true, false, cond}
+use Rattle.std.proofs.Common.{◌≡◌, ℕ, ◌+◌, ◌<◌, ◌≤◌, List, [], ◌∷◌, ◌++◌, length, length-append, length-drop}
+use Rattle.std.proofs.Common.{map, take, sym, subst, arith, Option, None, Some, Bool, true, false, cond}
 use Rattle.std.specs.Prelude.{◌==◌}
 use Rattle.std.specs.List.{AllByRecursion}
-use Rattle.trace_funnel.specs.Turns.{Place, Found, first_busy, waits, served, longer, empty, turn_of, turn, queue_of}
+use Rattle.trace_funnel.specs.Turns.{Place, Found, first_busy, waits, served, longer, empty, turn_of, turn, queue_of, put}
+use Rattle.trace_funnel.specs.Kept.{count}
 use Rattle.trace_funnel.proofs.Places.{waits_at, IsFound, found}
 
 -- what holds of two lists holds of both, one after the other
@@ -46,13 +47,25 @@ module _ (depth : ℕ) where
         (joined IsShort (map (waits n) f.before) (served hold f.place ∷ []) (waits_short n f.before parts.0)
         (omega (arith, less, one), tt))
 
-  pub put_short : (front : List Place) (p q : Place) (back : List Place) (byte : ℕ) → q ≡ longer byte p →
-      length p.queue < depth → AreShort (front ++ (p ∷ back)) → AreShort (front ++ (q ∷ back))
-  put_short front p q back byte e room h =
-      let parts = parted IsShort front (p ∷ back) h in
-      let one = ap (λ (r : Place). length r.queue) e in
-      let more = length-append p.queue (byte ∷ []) in
-      joined IsShort front (q ∷ back) parts.0 (omega (arith, one, more, room), parts.1.1)
+  put_other_short : (x b : ℕ) (ps : List Place) → count x ps ≡ 0 → AreShort ps → AreShort (put x b ps)
+  put_other_short x b [] n h = tt
+  put_other_short x b (p ∷ ps) n h = by (p.id == x) n (put_other_short x b ps) where
+    by : (t : Bool) → cond t (count x ps + 1) (count x ps) ≡ 0 → (count x ps ≡ 0 → AreShort ps → AreShort (put x b ps)) →
+        (length (cond t (longer b p) p).queue ≤ depth) × AreShort (put x b ps)
+    by true n f = absurd (omega arith)
+    by false n f = (h.0, f n h.1)
+
+  pub put_short : (x b : ℕ) (ps : List Place) → count x ps ≤ 1 → length (queue_of x ps) < depth → AreShort ps →
+      AreShort (put x b ps)
+  put_short x b [] n l h = tt
+  put_short x b (p ∷ ps) n l h = by (p.id == x) n l (put_short x b ps) where
+    by : (t : Bool) → cond t (count x ps + 1) (count x ps) ≤ 1 → length (cond t p.queue (queue_of x ps)) < depth →
+        (count x ps ≤ 1 → length (queue_of x ps) < depth → AreShort ps → AreShort (put x b ps)) →
+        (length (cond t (longer b p) p).queue ≤ depth) × AreShort (put x b ps)
+    by true n l f =
+        let a = length-append p.queue (b ∷ []) in
+        (omega (arith, a, l), put_other_short x b ps (omega (arith, n)) h.1)
+    by false n l f = (h.0, f n l h.1)
 
   -- nor has that of an ID
   pub queue_short : (x : ℕ) (ps : List Place) → AreShort ps → length (queue_of x ps) ≤ depth

@@ -7,7 +7,7 @@ ghost use Rattle.trace_funnel.specs.Turns.{is_full, put, load};
 ghost use Rattle.trace_funnel.specs.Order.{are_apart};
 ghost use Rattle.trace_funnel.specs.State.{fresh, with_places, turn_by, offer_by, HasPlace, id_at, queue_at, waited_at};
 
-use crate::queue::{MOST_HELD, Queue, first_busy, queue_in, queues_of, turn};
+use crate::queue::{MOST_HELD, Queue, count_in, first_busy, put_in, queues_of, turn, waited_in};
 use crate::tagged::Tagged;
 use arrayvec::ArrayVec;
 use std::alloc::{AllocError, Global};
@@ -117,10 +117,7 @@ impl Funnel {
         ensures bound { result ≤ (length self.now.order - 1) * self.now.hold }
         ensures idle { queue_at self.now place ≡ [] → result ≡ 0 }
     {
-        match queue_in(self.queues.as_slice(), self.order[place]) {
-            Some(index) => self.queues[index].waited,
-            None => 0,
-        }
+        waited_in(self.queues.as_slice(), self.order[place])
     }
 
     // Whether the queue of this place has as many bytes as it may have.
@@ -129,10 +126,7 @@ impl Funnel {
         ensures full { result ≡ is_full self.now.depth (id_at self.now place) self.now.places }
         ensures has { HasPlace self.now place }
     {
-        match queue_in(self.queues.as_slice(), self.order[place]) {
-            Some(index) => self.queues[index].bytes.len() == self.depth,
-            None => false,
-        }
+        count_in(self.queues.as_slice(), self.order[place]) == self.depth
     }
 
     // Puts a byte into the queue of this place, which has room for it.
@@ -142,9 +136,7 @@ impl Funnel {
         ensures places { self.new ≡ with_places self.old (put (id_at self.old place) byte self.old.places) }
         ensures few { load self.new.places ≤ length self.new.order * self.new.depth }
     {
-        if let Some(index) = queue_in(self.queues.as_slice(), self.order[place]) {
-            self.queues[index].put(byte);
-        }
+        put_in(self.queues.as_mut_slice(), self.order[place], byte);
     }
 
     // Makes a turn, and appends what it gives.

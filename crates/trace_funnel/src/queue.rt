@@ -94,7 +94,8 @@ impl Queue {
 }
 
 ghost use Rattle.std.specs.Prelude.{List, ◌∷◌, ℕ};
-ghost use Rattle.trace_funnel.specs.Turns.{Place, empty};
+ghost use Rattle.trace_funnel.specs.Turns.{Place, empty, put, queue_of, waited_of};
+ghost use Rattle.trace_funnel.specs.Kept.{count};
 ghost use Rattle.trace_funnel.specs.Queues.{place_of, places_of, rooms_of, after_turn, HaveRoom};
 
 /// The empty queues of these sources, in this order, each with the memory for so many bytes.
@@ -118,12 +119,49 @@ pub fn first_busy(queues: &[Queue]) -> Option<usize>
     queues.iter().position(|queue| queue.is_busy())
 }
 
-/// Which of these is the first of this source.
-pub fn queue_in(queues: &[Queue], id: SourceId) -> Option<usize>
-    ensures value { result ≡ position (λ q. q.id == id) queues.now }
-    ensures within { IfSome result (λ index. index < length queues.now) }
+/// How many bytes are in the queue of this source; 0 where it has none.
+pub fn count_in(queues: &[Queue], id: SourceId) -> usize
+    ensures { result ≡ length (queue_of id (places_of queues.now)) }
 {
-    queues.iter().position(|queue| queue.id == id)
+    let Some((queue, rest)) = queues.split_first() else {
+        return 0;
+    };
+    if queue.id == id {
+        queue.bytes.len()
+    } else {
+        count_in(rest, id)
+    }
+}
+
+/// How long the queue of this source waited; 0 where it has none.
+pub fn waited_in(queues: &[Queue], id: SourceId) -> u64
+    ensures { result ≡ waited_of id (places_of queues.now) }
+{
+    let Some((queue, rest)) = queues.split_first() else {
+        return 0;
+    };
+    if queue.id == id {
+        queue.waited
+    } else {
+        waited_in(rest, id)
+    }
+}
+
+/// Puts a byte into the queue of this source, which has one at most, with fewer bytes than a queue may have.
+pub fn put_in(queues: &mut [Queue], id: SourceId, byte: u8)
+    requires one { count id (places_of queues.old) ≤ 1 }
+    requires room { AllByRecursion (λ room. length (queue_of id (places_of queues.old)) < room) (rooms_of queues.old) }
+    ensures places { places_of queues.new ≡ put id byte (places_of queues.old) }
+    ensures rooms { rooms_of queues.new ≡ rooms_of queues.old }
+{
+    let Some((queue, rest)) = queues.split_first_mut() else {
+        return;
+    };
+    if queue.id == id {
+        queue.put(byte);
+    } else {
+        put_in(rest, id, byte);
+    }
 }
 
 /// All that have bytes wait while another gives so many.
