@@ -22,10 +22,9 @@ use Rattle.trace_text.specs.LineText.{what_text}
 use Rattle.trace_text.specs.StpText.{stp_text}
 use Rattle.capture_actions.specs.Names.{Event, What, Packet, ItmPacket, StpItem, Itm, is_of}
 use Rattle.capture_actions.specs.KindCounts.{count_at, is_at, kind_count}
-use Rattle.capture_actions.specs.Words.{Begins, word_of, itm_word, stp_word, dwt_word, number_of, text_of}
+use Rattle.capture_actions.specs.Words.{Begins, all_words, dwt_word, itm_word, number_of, stp_word, text_of, word_of}
 use Rattle.capture_actions.specs.declared.item_word.ItemWord.{ItemWord}
 use Rattle.capture_actions.specs.declared.item_word.ItemWord.TheVariants as words
-use Rattle.capture_actions.specs.declared.item_word.TheConstants.{WORDS}
 use Rattle.capture_actions.proofs.Tallies.{bit, one}
 
 -- one event more
@@ -50,13 +49,13 @@ zeros : (ws : List ItemWord) → sum_by (λ (w : ItemWord). 0) ws ≡ 0
 zeros [] = refl
 zeros (w ∷ ws) = sum_by-cons (λ (v : ItemWord). 0) w ws ∙ ap (λ (n : ℕ). 0 + n) (zeros ws)
 
-has_place : (word : ItemWord) → sum_by (λ (w : ItemWord). bit (number_of word == number_of w)) WORDS ≡ 1
+has_place : (word : ItemWord) → sum_by (λ (w : ItemWord). bit (number_of word == number_of w)) all_words ≡ 1
 has_place words.Sync = refl
 has_place word = refl
 
 -- an item has one of the words
 once : (mine : Bool) (word : Option ItemWord) →
-    sum_by (λ (w : ItemWord). bit (mine && is_at (number_of w) word)) WORDS ≡ bit (mine && is_some word)
+    sum_by (λ (w : ItemWord). bit (mine && is_at (number_of w) word)) all_words ≡ bit (mine && is_some word)
 once false word = refl
 once true None = refl
 once true (Some word) = has_place word
@@ -69,12 +68,12 @@ is_word : (what : What Packet) → is_some (word_of what) ≡ is_item what
 is_word (Locked skipped) = refl
 is_word x = refl
 
-pub sum_of_kinds : (x : ℕ) (es : List (Event Packet)) → sum_by (λ (w : ItemWord). kind_count x w es) WORDS ≡ items_in x es
-sum_of_kinds x [] = none_at_all x WORDS
+pub sum_of_kinds : (x : ℕ) (es : List (Event Packet)) → sum_by (λ (w : ItemWord). kind_count x w es) all_words ≡ items_in x es
+sum_of_kinds x [] = none_at_all x all_words
 sum_of_kinds x (e ∷ es) =
     sums (λ w. kind_count x w (e ∷ es)) (λ w. one x (number_of w) e.source (word_of e.what)) (λ w. kind_count x w es)
-    (λ w. count_cons x (number_of w) e es) WORDS
-    ∙ ap (λ (n : ℕ). n + sum_by (λ (w : ItemWord). kind_count x w es) WORDS)
+    (λ w. count_cons x (number_of w) e es) all_words
+    ∙ ap (λ (n : ℕ). n + sum_by (λ (w : ItemWord). kind_count x w es) all_words)
     (once (is_of (Some x) e.source) (word_of e.what)
     ∙ ap (λ (b : Bool). bit (is_of (Some x) e.source && b)) (is_word e.what))
     ∙ ap (λ (n : ℕ). bit (is_of (Some x) e.source && is_item e.what) + n) (sum_of_kinds x es)

@@ -17,9 +17,8 @@ use Rattle.capture_actions.specs.KindLines.{PutsPart, counted_line, line_of, owe
 use Rattle.capture_actions.specs.Kinds.{kind_text, words_text, source_kinds_text, kinds_in, lines_by, all_lines, kinds_by, none}
 use Rattle.capture_actions.specs.Listing.{ending_by}
 use Rattle.capture_actions.specs.Summary.{source_text}
-use Rattle.capture_actions.specs.Words.{number_of}
+use Rattle.capture_actions.specs.Words.{all_words, number_of}
 use Rattle.capture_actions.specs.declared.item_word.ItemWord.{ItemWord}
-use Rattle.capture_actions.specs.declared.item_word.TheConstants.{WORDS}
 use Rattle.capture_actions.specs.declared.kind_counts.KindCounts.{KindCounts}
 use Rattle.capture_actions.specs.declared.kind_lines.KindLines.{KindLines}
 use Rattle.capture_actions.specs.declared.kind_lines.Part.{Part}
@@ -76,10 +75,10 @@ module _ (plan : Plan) (kinds : KindCounts) (es : List (Event Packet)) (counted 
   kept x word = number_at kinds x (number_of word)
 
   kinds_same : (x : ℕ) → x < ID_COUNT → (mapped : Bool) →
-      ◌≡◌ {A = List ℕ} (cond mapped (words_text x (kept x) WORDS) []) (cond mapped (words_text x (kinds_in es x) WORDS) [])
+      ◌≡◌ {A = List ℕ} (cond mapped (words_text x (kept x) all_words) []) (cond mapped (words_text x (kinds_in es x) all_words) [])
   kinds_same x few false = refl
   kinds_same x few true =
-      words_same x (kept x) (kinds_in es x) (λ word. counted x (number_of word) few (few_words word)) WORDS
+      words_same x (kept x) (kinds_in es x) (λ word. counted x (number_of word) few (few_words word)) all_words
 
   pub lines_are : (counts : List Counts) (of : ℕ → Counts) → ((x : ℕ) → x < ID_COUNT → get_or counts x none ≡ of x) →
       lines_by (counted_line plan kinds counts) 0 ID_COUNT ≡ all_lines plan of es

@@ -12,9 +12,8 @@ use Rattle.capture_actions.specs.Faulty.{IsFaulty, read_of}
 use Rattle.capture_actions.specs.KindCounts.{kind_count, MOST}
 use Rattle.capture_actions.specs.Listing.{ending_by}
 use Rattle.capture_actions.specs.Summary.{source_text}
-use Rattle.capture_actions.specs.Words.{text_of}
+use Rattle.capture_actions.specs.Words.{all_words, text_of}
 use Rattle.capture_actions.specs.declared.item_word.ItemWord.{ItemWord}
-use Rattle.capture_actions.specs.declared.item_word.TheConstants.{WORDS}
 
 -- `ID kind WORD COUNT`
 abbrev pub kind_line : ℕ → ItemWord → ℕ → List ℕ
@@ -30,7 +29,7 @@ unfoldable pub words_text : ℕ → (ItemWord → ℕ) → List ItemWord → Lis
 words_text id counts words = flat_map (λ word. kind_text id word (counts word)) words
 
 abbrev pub kinds_text : Plan → ℕ → (ItemWord → ℕ) → List ℕ
-kinds_text plan id counts = if is_some (kind_of plan id) then words_text id counts WORDS else []
+kinds_text plan id counts = if is_some (kind_of plan id) then words_text id counts all_words else []
 
 -- the line of a source that sent a byte, and after it those of its kinds
 abbrev pub source_kinds_text : Plan → ℕ → Counts → (ItemWord → ℕ) → List ℕ

@@ -54,6 +54,12 @@ number_of word = (row_of word).0
 abbrev pub text_of : ItemWord → List ℕ
 text_of word = (row_of word).1
 
+-- all words, in the order of the manual's tables
+abbrev pub all_words : List ItemWord
+all_words =
+    Sync ∷ Overflow ∷ Port ∷ Counters ∷ Exception ∷ Pc ∷ Asleep ∷ Cmp ∷ Hw ∷ Local ∷ Global1 ∷ Global2 ∷ Ext
+    ∷ Async ∷ Version ∷ Data ∷ Flag ∷ Trig ∷ Freq ∷ Nullts ∷ Merr ∷ Gerr ∷ Raw ∷ Trigger ∷ []
+
 -- the word of what a hardware packet means
 abbrev pub dwt_word : DwtItem → ItemWord
 dwt_word (OfCounters counters) = Counters

@@ -6,11 +6,9 @@ ghost use Rattle.source_events.specs.Report.{is_item};
 ghost use Rattle.source_events.specs.Tails.{items_in};
 ghost use Rattle.capture_actions.specs.Names.{Event, Packet, What};
 ghost use Rattle.capture_actions.specs.KindCounts.{kind_count};
-ghost use Rattle.capture_actions.specs.Words.{Begins, word_of};
+ghost use Rattle.capture_actions.specs.Words.{Begins, all_words, word_of};
 ghost use Rattle.capture_actions.specs.declared.item_word.ItemWord.{ItemWord};
 ghost use Rattle.trace_text.specs.LineText.{what_text};
-
-use crate::item_word::WORDS;
 
 /// The word of an item is the first of its text, and so the third field of its line. Each item has one, and the notice
 /// of a lock has none.
@@ -23,5 +21,5 @@ pub fn word_law()
 /// The counts of all words of a source sum to its items.
 pub fn sum_law()
     ensures { (es : List (Event Packet)) (source : ℕ) →
-        sum_by (λ word. kind_count source word es) WORDS ≡ items_in source es }
+        sum_by (λ word. kind_count source word es) all_words ≡ items_in source es }
 {}

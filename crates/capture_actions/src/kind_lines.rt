@@ -4,7 +4,7 @@ ghost use Rattle.std.specs.Prelude.{◌≡◌, ◌+◌, ◌*◌, ◌≤◌, ◌+
 ghost use Rattle.capture_actions.specs.Names.{ID_COUNT};
 ghost use Rattle.capture_actions.specs.Kinds.{kind_text, kinds_text, words_text};
 ghost use Rattle.capture_actions.specs.KindCounts.{number_at};
-ghost use Rattle.capture_actions.specs.Words.{number_of};
+ghost use Rattle.capture_actions.specs.Words.{all_words, number_of};
 
 use crate::check::put_source_line;
 use crate::item_word::{ItemWord, WORD_COUNT, WORDS};
@@ -59,7 +59,8 @@ fn put_kind(outlet: &mut Outlet, id: SourceId, word: ItemWord, count: u64)
 /// Puts the lines of the words that occurred in this source.
 fn put_words(outlet: &mut Outlet, id: SourceId, kinds: &KindCounts)
     requires room { length outlet.old + KINDS_ROOM ≤ OUTLET_ROOM }
-    ensures text { outlet.new ≡ outlet.old ++ words_text id (λ word. number_at kinds.now id (number_of word)) WORDS }
+    ensures text { outlet.new ≡
+        outlet.old ++ words_text id (λ word. number_at kinds.now id (number_of word)) all_words }
     ensures bound { length outlet.new ≤ length outlet.old + KINDS_ROOM }
 {
     let words = WORDS;

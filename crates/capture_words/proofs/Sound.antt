@@ -45,7 +45,6 @@ use Rattle.capture_words.specs.declared.values.ActionName.TheVariants.{Exercise 
 use Rattle.capture_words.specs.declared.values.ActionName.TheVariants.{Ring as RingName, Unring as UnringName}
 use Rattle.capture_words.specs.declared.values.ActionName.TheVariants.{Text as TextName, Funnel as FunnelName}
 use Rattle.capture_words.specs.declared.values.ActionName.TheVariants.{Vcd as VcdName}
-use Rattle.capture_words.specs.declared.values.TheConstants.{GREATEST_LIMIT}
 use Rattle.capture_words.proofs.Again.{InRange, is_sound_list, is_apart_list}
 use Rattle.capture_words.proofs.IdLists.{ids_is}
 
@@ -123,7 +122,7 @@ AreSmall s = (s.half ≤ 8) × (s.lose ≤ 1000000) × (s.port ≤ 31)
 
 abbrev AreBetween : Settings → Type 0
 AreBetween s =
-    Between 1 GREATEST_LIMIT s.limit × Between 1 1000000 s.items × Between 1 15 s.hold × Between 1 4096 s.depth
+    Between 1 (2 ^ 36) s.limit × Between 1 1000000 s.items × Between 1 15 s.hold × Between 1 4096 s.depth
 
 abbrev ArePresent : Settings → Type 0
 ArePresent s = IsSize s.size × IsGivenOrder s.order × IsHz s.hz
@@ -163,8 +162,8 @@ kept s Half text t (plan, (half, lose, port), ranges, optional) e =
     changed AreSettings (number_named 0 8 text) _ t
     (λ n is. (plan, ((between 0 8 text n is).1, lose, port), ranges, optional)) e
 kept s Limit text t (plan, small, (limit, items, hold, depth), optional) e =
-    changed AreSettings (number_named 1 GREATEST_LIMIT text) _ t
-    (λ n is. (plan, small, (between 1 GREATEST_LIMIT text n is, items, hold, depth), optional)) e
+    changed AreSettings (number_named 1 (2 ^ 36) text) _ t
+    (λ n is. (plan, small, (between 1 (2 ^ 36) text n is, items, hold, depth), optional)) e
 kept s Items text t (plan, small, (limit, items, hold, depth), optional) e =
     changed AreSettings (number_named 1 1000000 text) _ t
     (λ n is. (plan, small, (limit, between 1 1000000 text n is, hold, depth), optional)) e
@@ -302,7 +301,7 @@ of_task FunnelName s task (plans, (half, lose, port), (limit, items, hold, depth
     (sound, half, of_turns_with s.order s.hold s.depth turns.value order hold depth turns.is)
 
 abbrev IsSoundJob : Job → Type 0
-IsSoundJob job = Between 1 GREATEST_LIMIT job.limit × IsSoundTask job.task
+IsSoundJob job = Between 1 (2 ^ 36) job.limit × IsSoundTask job.task
 
 -- the job that the entries ask for, and so the one that is told
 pub sound : (rows : List Row) (job told : Job) → job_of rows ≡ Ok job → Do job ≡ Do told → IsSoundJob told

@@ -18,10 +18,9 @@ use Rattle.capture_words.specs.declared.recover.Recover.TheVariants.{Off}
 use Rattle.capture_words.specs.declared.settings.Settings.{Settings}
 use Rattle.capture_words.specs.declared.usage.UsageFault.{UsageFault}
 use Rattle.capture_words.specs.declared.usage.UsageFault.TheVariants.{BadValue}
-use Rattle.capture_words.specs.declared.values.TheConstants.{GREATEST_LIMIT}
 
 -- no source is mapped, all events are listed, a full synchronisation is before each 64 frames, there are no half ones,
--- 12,000 items are made and no byte is lost, and reading ends at a fault
+-- 64 GiB are read at most, 12,000 items are made and no byte is lost, and reading ends at a fault
 abbrev pub defaults : Settings
 defaults = record {
   plan = record { frames = FramesHunt; packets = PacketsHunt; itm = []; stp = []; order = Msn };
@@ -30,7 +29,7 @@ defaults = record {
   window = None;
   sync = 64;
   half = 0;
-  limit = GREATEST_LIMIT;
+  limit = 2 ^ 36;
   items = 12000;
   lose = 0;
   recover = Off;
@@ -61,7 +60,7 @@ said s Only text = option_map (λ x. record s { only = x }) (present (choices_na
 said s Window text = option_map (λ x. record s { window = x }) (present (window_named text))
 said s Sync text = option_map (λ x. record s { sync = x }) (number_named 0 1000000 text)
 said s Half text = option_map (λ x. record s { half = x }) (number_named 0 8 text)
-said s Limit text = option_map (λ x. record s { limit = x }) (number_named 1 GREATEST_LIMIT text)
+said s Limit text = option_map (λ x. record s { limit = x }) (number_named 1 (2 ^ 36) text)
 said s Items text = option_map (λ x. record s { items = x }) (number_named 1 1000000 text)
 said s Lose text = option_map (λ x. record s { lose = x }) (number_named 0 1000000 text)
 said s Recover text = option_map (λ x. record s { recover = x }) (recover_named text)

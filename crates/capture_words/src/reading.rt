@@ -1,8 +1,7 @@
 //! What the words ask for.
 
-ghost use Rattle.std.specs.Prelude.{◌≡◌, ◌≤◌, map, codes, ◌∷◌, IfOk};
+ghost use Rattle.std.specs.Prelude.{◌^◌, ◌≡◌, ◌≤◌, map, codes, ◌∷◌, IfOk};
 ghost use Rattle.capture_words.specs.declared.job.Job.{Job};
-ghost use Rattle.capture_words.specs.declared.values.TheConstants.{GREATEST_LIMIT};
 ghost use Rattle.std.specs.String.{string_bytes};
 ghost use Rattle.capture_words.specs.Calls.{AskedBy};
 ghost use Rattle.capture_words.specs.Jobs.{IsSoundTask};
@@ -41,7 +40,7 @@ fn with_name<'a>(alloc: Global, words: &'a [String]) -> Result<Vec<&'a str>, All
 /// What the words after the program's name ask for.
 pub fn read_words(alloc: Global, words: &[String]) -> Asked
     ensures asked { AskedBy (map string_bytes words.now) result }
-    ensures limit { (job : Job) → result ≡ Asked.Do job → (1 ≤ job.limit) × (job.limit ≤ GREATEST_LIMIT) }
+    ensures limit { (job : Job) → result ≡ Asked.Do job → (1 ≤ job.limit) × (job.limit ≤ 2 ^ 36) }
     ensures sound { (job : Job) → result ≡ Asked.Do job → IsSoundTask job.task }
 {
     let Ok(all) = with_name(alloc, words) else {

@@ -5,7 +5,6 @@ use Rattle.std.specs.List.{list_any}
 use Rattle.value_dump.specs.Names.{ItmPacket, Local, local_after}
 use Rattle.value_dump.specs.Signals.{value_after}
 use Rattle.value_dump.specs.Lines.{value_line, timed, nanoseconds}
-use Rattle.value_dump.specs.declared.signals.TheConstants.{SIGNALS}
 
 -- it is a local timestamp
 abbrev pub is_local : ItmPacket → Bool
@@ -28,13 +27,13 @@ change number old None = []
 change number old (Some value) = if has_value old value then [] else value_line number value
 
 -- the lines of the signals that changed from the first of two moments to the second, each by its values then: of so
--- many signals, and of all
+-- many signals, and of all 40
 abbrev pub changes_of : ℕ → (ℕ → Option ℕ) → (ℕ → Option ℕ) → List ℕ
 changes_of zero old new = []
 changes_of (suc number) old new = changes_of number old new ++ change number (old number) (new number)
 
 unfoldable pub changes : (ℕ → Option ℕ) → (ℕ → Option ℕ) → List ℕ
-changes old new = changes_of SIGNALS old new
+changes old new = changes_of 40 old new
 
 -- what is written after these packets: the signals that changed since the last local timestamp of those before, at the
 -- local time after them

@@ -5,7 +5,6 @@ use Rattle.std.specs.Prelude.{if◌then◌else◌, flat_map, map, codes, decimal
 use Rattle.std.specs.List.{range_with_len}
 use Rattle.value_dump.specs.Names.{ItmPacket, Software, Hardware, Overflow, DwtItem, Exception, Sample, Asleep, Read}
 use Rattle.value_dump.specs.Names.{Written, Enter, Exit, Return, name}
-use Rattle.value_dump.specs.declared.signals.TheConstants.{EXCEPTION, PC, ASLEEP, FIRST_PORT, FIRST_COMPARATOR, LOST}
 
 -- a signal, and how many bits it has
 pub record Signal : Type 0 where
@@ -29,25 +28,44 @@ signals =
     ∷ signal (codes "asleep") 1
     ∷ (numbered (codes "port") 32 ++ (numbered (codes "cmp") 4 ++ signal (codes "lost") 1 ∷ []))
 
+-- the numbers of signals by their names
+abbrev pub exception : ℕ
+exception = 0
+
+abbrev pub pc : ℕ
+pc = 1
+
+abbrev pub asleep : ℕ
+asleep = 2
+
+abbrev pub port : ℕ → ℕ
+port n = 3 + n
+
+abbrev pub cmp : ℕ → ℕ
+cmp n = 35 + n
+
+abbrev pub lost : ℕ
+lost = 39
+
 -- those of one bit
 abbrev pub is_bit : ℕ → Bool
-is_bit number = number == ASLEEP || number == LOST
+is_bit number = number == asleep || number == lost
 
 -- which signals a hardware packet tells by what it means, each with its value; that an exception is exited tells not
 -- which one goes on
 abbrev pub told_by_item : DwtItem → List (ℕ × ℕ)
-told_by_item (Exception number Enter) = (EXCEPTION, number) ∷ []
+told_by_item (Exception number Enter) = (exception, number) ∷ []
 told_by_item (Exception number Exit) = []
-told_by_item (Exception number Return) = (EXCEPTION, number) ∷ []
-told_by_item (Sample pc) = (PC, pc) ∷ (ASLEEP, 0) ∷ []
-told_by_item Asleep = (ASLEEP, 1) ∷ []
-told_by_item (Read comparator size value) = (FIRST_COMPARATOR + comparator, value) ∷ []
-told_by_item (Written comparator size value) = (FIRST_COMPARATOR + comparator, value) ∷ []
+told_by_item (Exception number Return) = (exception, number) ∷ []
+told_by_item (Sample counter) = (pc, counter) ∷ (asleep, 0) ∷ []
+told_by_item Asleep = (asleep, 1) ∷ []
+told_by_item (Read comparator size value) = (cmp comparator, value) ∷ []
+told_by_item (Written comparator size value) = (cmp comparator, value) ∷ []
 told_by_item item = []
 
 -- and which a packet tells
 abbrev pub told_by : ItmPacket → List (ℕ × ℕ)
-told_by (Software port size value) = (FIRST_PORT + port, value) ∷ []
+told_by (Software number size value) = (port number, value) ∷ []
 told_by (Hardware disc size value) = told_by_item (name disc size value)
 told_by packet = []
 
@@ -68,4 +86,4 @@ lost_by count = if count == 0 then None else Some (count % 2)
 -- the value of a signal after these packets, if it is known
 abbrev pub value_after : List ItmPacket → ℕ → Option ℕ
 value_after packets number =
-    if number == LOST then lost_by (count_by is_overflow packets) else last_told number None (flat_map told_by packets)
+    if number == lost then lost_by (count_by is_overflow packets) else last_told number None (flat_map told_by packets)

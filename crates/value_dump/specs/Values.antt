@@ -2,8 +2,7 @@
 use Rattle.std.specs.Prelude.{ℕ, Option, None, Some, ◌==◌, if◌then◌else◌}
 use Rattle.value_dump.specs.Names.{ItmPacket}
 use Rattle.value_dump.specs.Dump.{known}
-use Rattle.value_dump.specs.Signals.{is_overflow, last_told, told_by}
-use Rattle.value_dump.specs.declared.signals.TheConstants.{LOST}
+use Rattle.value_dump.specs.Signals.{is_overflow, last_told, lost, told_by}
 use Rattle.value_dump.specs.declared.values.SignalValues.{SignalValues}
 
 -- the value of a signal now, and at the last local timestamp
@@ -25,6 +24,6 @@ toggled (Some value) = if value == 0 then Some 1 else Some 0
 -- the value of a signal after a packet, by that before it
 abbrev pub value_next : ItmPacket → ℕ → Option ℕ → Option ℕ
 value_next packet number known =
-    if number == LOST
+    if number == lost
     then (if is_overflow packet then toggled known else known)
     else last_told number known (told_by packet)
