@@ -17,7 +17,7 @@ stamps_in (GlobalSecond wide value) = Second value ∷ []
 stamps_in packet = []
 
 -- The local time after some packets, and the global one. In a capture of at most 2^36 bytes the first is the sum of the
--- packets' ticks: capture_report::laws::clock_law.
+-- packets' ticks: capture_actions::laws::clock_law.
 abbrev pub local_after : List ItmPacket → ℕ
 local_after packets = local_time (flat_map deltas_in packets)
 
