@@ -1,6 +1,6 @@
 -- Hexadecimal digits of numbers, and the numbers that they say.
 use Rattle.std.proofs.Common.{◌≡◌, ℕ, zero, suc, ◌+◌, ◌*◌, ◌/◌, ◌%◌, ◌^◌, ◌<◌, ◌≤◌, List, [], ◌∷◌, length, refl, sym}
-use Rattle.std.proofs.Common.{◌∙◌, ap, arith, true, map, slice_index, ◌==◌, if◌then◌else◌}
+use Rattle.std.proofs.Common.{◌∙◌, ap, arith, Bool, true, false, map, slice_index, ◌==◌, ◌&&◌, if◌then◌else◌}
 use Rattle.std.specs.List.{list_all}
 use Rattle.std.specs.Char.{is_ascii_hexdigit, digit_value}
 use Rattle.std.specs.Str.Parse.{digits_value, digits_value_after}
@@ -10,9 +10,22 @@ use Rattle.std.proofs.lemmas.Nat.{mod-mul-add, div-mul-add, mul-le}
 use Rattle.std.proofs.Math.Nat.{pow-zero, pow-suc, mul_comm, mul_assoc, add-mul, mod-eq_of_lt, div-add-mod}
 use Rattle.hex.specs.Hex.{lower_digits}
 use Rattle.script_laws.specs.Names.{nibble_at, hex_digits}
-use Rattle.script_text.proofs.DigitTable.{below, below_holds}
 use Rattle.script_text.proofs.Hexadecimals.{all_digits, digit_small, and_left, and_right, both}
 use Rattle.script_laws.specs.Lowered.{lowered}
+
+-- a test holds of all numbers below n
+unfoldable pub below : (ℕ → Bool) → ℕ → Bool
+below test zero = true
+below test (suc n) = test n && below test n
+
+pub below_holds : (test : ℕ → Bool) (n b : ℕ) → below test n ≡ true → b < n → test b ≡ true
+unfolding below
+below_holds test zero b h less = absurd (omega arith)
+below_holds test (suc n) b h less = by (b == n) refl (λ less. below_holds test n b (and_right (test n) (below test n) h) less)
+  where
+    by : (v : Bool) → (b == n) ≡ v → (b < n → test b ≡ true) → test b ≡ true
+    by true e more = (let same : b ≡ n = grind (arith, nat_tests) in ap test same ∙ and_left (test n) (below test n) h)
+    by false e more = more (let differ : (b ≡ n → ⊥) = (λ q. grind (arith, nat_tests)) in grind (arith, nat_tests))
 
 pub digit_hexadecimal : (d : ℕ) → d < 16 → is_ascii_hexdigit (slice_index lower_digits d) ≡ true
 unfolding below

@@ -24,8 +24,7 @@ use Rattle.script_text.proofs.Hexadecimals.{hexadecimal_is, and_left, and_right}
 use Rattle.script_text.proofs.Options.{bind_some, some_of, map_some}
 use Rattle.script_text.proofs.Fields.{size_is, decoded_ok}
 use Rattle.script_laws.specs.Lowered.{lowered}
-use Rattle.script_text.proofs.DigitTable.{below, below_holds}
-use Rattle.script_laws.proofs.Digits.{same_number, lowered_digits}
+use Rattle.script_laws.proofs.Digits.{below, below_holds, same_number, lowered_digits}
 
 -- decimals have no letters
 digit_kept : (c : ℕ) → IsInRange 48 57 c → lowered c ≡ c

@@ -14,8 +14,7 @@ use Rattle.script_text.specs.Lines.{◌>>=◌}
 use Rattle.script_text.proofs.Hexadecimals.{hexadecimal_small}
 use Rattle.script_text.proofs.NewLines.{two_by, too_many}
 use Rattle.script_laws.specs.Lowered.{lowered}
-use Rattle.script_text.proofs.DigitTable.{below, below_holds}
-use Rattle.script_laws.proofs.Digits.{same_number}
+use Rattle.script_laws.proofs.Digits.{below, below_holds, same_number}
 use Rattle.script_laws.proofs.Joining.{joined}
 use Rattle.script_laws.proofs.Items.{byte_is}
 use Rattle.script_laws.proofs.Lowering.{number_lowered, hexadecimal_lowered}

@@ -1,7 +1,6 @@
 pub mod Splitting
 mod FirstWords
 pub mod Hexadecimals
-pub mod DigitTable
 pub mod Options
 pub mod Fields
 pub mod Ranges

@@ -1,10 +1,6 @@
 //! Numbers of words.
 
-ghost use Rattle.std.specs.Prelude.{◌≡◌, ◌⊎◌, ◌≤◌, ◌<◌, ◌^◌, ◌*◌, ◌+◌, length, true, None, Some, IfSome, if◌then◌else◌};
-ghost use Rattle.std.specs.Prelude.{option_map};
-ghost use Rattle.std.specs.List.{list_all};
-ghost use Rattle.std.specs.Char.{is_ascii_hexdigit, digit_value};
-ghost use Rattle.std.specs.Str.Parse.{digits_value};
+ghost use Rattle.std.specs.Prelude.{◌≡◌, ◌≤◌, ◌<◌, ◌^◌, ◌*◌, IfSome, option_map};
 ghost use Rattle.script_text.specs.Names.{byte_count};
 ghost use Rattle.script_text.specs.Words.{texts};
 ghost use Rattle.script_text.specs.Numbers.{hexadecimal_named as named, decimal_at as decimal_in};
@@ -14,56 +10,25 @@ use crate::words::word_of;
 use decimal_words::number_in;
 use itm_grammar::packet::Size;
 
-/// What each byte says as a hexadecimal digit, in either case; 16 for one that is none.
-const DIGITS: [u8; 256] = [
-    16, 16, 16, 16, 16, 16, 16, 16, 16, 16, 16, 16, 16, 16, 16, 16, 16, 16, 16, 16, 16, 16, 16, 16,
-    16, 16, 16, 16, 16, 16, 16, 16, 16, 16, 16, 16, 16, 16, 16, 16, 16, 16, 16, 16, 16, 16, 16, 16,
-    0, 1, 2, 3, 4, 5, 6, 7, 8, 9, 16, 16, 16, 16, 16, 16, 16, 10, 11, 12, 13, 14, 15, 16, 16, 16,
-    16, 16, 16, 16, 16, 16, 16, 16, 16, 16, 16, 16, 16, 16, 16, 16, 16, 16, 16, 16, 16, 16, 16, 10,
-    11, 12, 13, 14, 15, 16, 16, 16, 16, 16, 16, 16, 16, 16, 16, 16, 16, 16, 16, 16, 16, 16, 16, 16,
-    16, 16, 16, 16, 16, 16, 16, 16, 16, 16, 16, 16, 16, 16, 16, 16, 16, 16, 16, 16, 16, 16, 16, 16,
-    16, 16, 16, 16, 16, 16, 16, 16, 16, 16, 16, 16, 16, 16, 16, 16, 16, 16, 16, 16, 16, 16, 16, 16,
-    16, 16, 16, 16, 16, 16, 16, 16, 16, 16, 16, 16, 16, 16, 16, 16, 16, 16, 16, 16, 16, 16, 16, 16,
-    16, 16, 16, 16, 16, 16, 16, 16, 16, 16, 16, 16, 16, 16, 16, 16, 16, 16, 16, 16, 16, 16, 16, 16,
-    16, 16, 16, 16, 16, 16, 16, 16, 16, 16, 16, 16, 16, 16, 16, 16, 16, 16, 16, 16, 16, 16, 16, 16,
-    16, 16, 16, 16, 16, 16, 16, 16, 16, 16, 16, 16, 16, 16,
-];
-
-/// What a hexadecimal digit says, in either case; 16 for a byte that is none. By a table, since it has no pattern which
-/// digits are letters.
-#[tactic(auto, using(crate::proofs::DigitTable::digit_table))]
-fn digit_value(digit: u8) -> u8
-    ensures { result ≡ (if is_ascii_hexdigit digit then digit_value digit else 16) }
-{
-    DIGITS[digit as usize]
-}
-
-/// The number that at most 16 bytes say, if they are hexadecimal digits.
-fn digits_value(digits: &[u8]) -> Option<u64>
-    requires { length digits.now ≤ 16 }
-    ensures { result ≡ (if list_all is_ascii_hexdigit digits.now then Some (digits_value 16 digits.now) else None) }
-{
-    let mut value: u64 = 0;
-    let mut all = true;
-    for digit in digits {
-        let digit = digit_value(*digit);
-        all = all && digit < 16;
-        value = value.wrapping_mul(16).wrapping_add(u64::from(digit));
-    }
-    if all { Some(value) } else { None }
-}
-
-/// The number of this many hexadecimal digits, at most 16, in either case, most significant first.
+/// The number of this many hexadecimal digits, at most 16, in either case, most significant first. An odd count of them
+/// has a zero in front, so that they are those of whole bytes.
 #[tactic(auto, unfolding(crate::specs::Numbers::hexadecimal_named))]
 pub fn hexadecimal_named(count: usize, text: &[u8]) -> Option<u64>
     requires { count ≤ 16 }
     ensures value { result ≡ named count text.now }
     ensures fits { IfSome result (λ n. n < 16 ^ count) }
 {
-    if text.len() == count {
-        digits_value(text)
-    } else {
-        None
+    if text.len() != count {
+        return None;
+    }
+    let odd = count % 2;
+    let len = odd + count;
+    let mut digits = [b'0'; 16];
+    digits[odd..len].copy_from_slice(text);
+    let mut bytes = [0; 8];
+    match hex::decode_to_slice(&digits[..len], &mut bytes[8 - len / 2..]) {
+        Ok(()) => Some(u64::from_be_bytes(bytes)),
+        Err(_) => None,
     }
 }
 
