@@ -32,7 +32,8 @@ pub record EndsLast (mode : FramesMode) (u : List Placed) (at : ℕ) (bytes : Li
   pub quiet : parts_in (recovered mode (u ++ placed_from at front)) ≡ parts_in (recovered mode u)
 
 -- It took this many bytes of the piece, the first of which is at this offset, and stands for them after what it stood
--- for. With a formatter all but the last of them add nothing. The events that the report grows by with them, with guesses or without, were given.
+-- for. With a formatter all but the last of them add nothing. The events that the report grows by with them, with
+-- guesses or without, were given.
 pub record TakesFront {S : Type 0} (gets : S → List (Event (Heard Packet)) → S → Type 0) (left : S → ℕ)
     (at : ℕ) (piece : List ℕ) (taken : ℕ) (old new : Recovery × S) : Type 0 where
   pub bytes : (0 < taken) × (taken ≤ length piece)
@@ -51,7 +52,8 @@ pub record TakesFront {S : Type 0} (gets : S → List (Event (Heard Packet)) →
 -- fault.
 abbrev pub CountsFront : ℕ → List ℕ → ℕ → Recovery → Recovery → Type 0
 CountsFront at piece taken old new =
-    TakesFront {S = Unit {0}} (λ s given t. AreUnread given × AreSound given) (λ s. 0) at piece taken (old, tt) (new, tt)
+    TakesFront {S = Unit {0}} (λ s given t. AreUnread given × AreSound given) (λ s. 0) at piece taken (old, tt)
+    (new, tt)
 
 -- what an engine keeps beside its sources
 pub record Kept : Type 0 where

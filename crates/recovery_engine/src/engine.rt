@@ -105,11 +105,11 @@ impl Recovery {
 
     /// Takes bytes from the front of a piece, the first of which is at this offset, and gives the events that the
     /// recovering report grows by: a whole frame, or else bytes up to the first one that ends a frame or a
-    /// synchronisation, or is a fault, or to the piece's end. With no formatter it takes bytes for whose events there is
-    /// room.
+    /// synchronisation, or is a fault, or to the piece's end. With no formatter it takes bytes for whose events there
+    /// is room.
     ///
-    /// The piece has a byte, and there is room for 30 events. Its first offset is at least `next()`, and its last one at
-    /// most `GREATEST_OFFSET`.
+    /// The piece has a byte, and there is room for 30 events. Its first offset is at least `next()`, and its last one
+    /// at most `GREATEST_OFFSET`.
     pub fn take<V: Hearer>(&mut self, at: u64, piece: &[u8], out: &mut V, to: &mut V::To) -> usize
         requires some { 0 < length piece.now }
         requires offsets { (next_of self.old ≤ at) × (at + length piece.now ≤ GREATEST_OFFSET + 1) }
@@ -210,7 +210,8 @@ impl Recovery {
         frame.size()
     }
 
-    /// The whole frame that a piece begins with, whose first byte is at this offset, where the port is between two frames.
+    /// The whole frame that a piece begins with, whose first byte is at this offset, where the port is between two
+    /// frames.
     #[inline(always)]
     fn frame_at(&self, at: u64, piece: &[u8]) -> Option<PlacedFrame>
         requires limit { at + length piece.now ≤ GREATEST_OFFSET + 1 }
@@ -249,9 +250,9 @@ impl Recovery {
         self.next = frame.at + bytes;
     }
 
-    /// Where no source is mapped: takes the whole frame that a piece begins with, whose first byte is at this offset, and
-    /// answers how many bytes that is. It leaves what `take` does; the frame's events, none of which is a packet or a
-    /// fault, are not made. None says nothing of the bytes, and takes none.
+    /// Where no source is mapped: takes the whole frame that a piece begins with, whose first byte is at this offset,
+    /// and answers how many bytes that is. It leaves what `take` does; the frame's events, none of which is a packet or
+    /// a fault, are not made. None says nothing of the bytes, and takes none.
     #[inline]
     pub fn count_frame(&mut self, at: u64, piece: &[u8]) -> Option<usize>
         requires offsets { (next_of self.old ≤ at) × (at + length piece.now ≤ GREATEST_OFFSET + 1) }

@@ -78,7 +78,7 @@ macro_rules! texts {
 }
 
 /// The texts of items by their first words, with `_` for a number or a timestamp.
-const TEXTS: [Texts; 23] = texts! {
+static TEXTS: [Texts; 23] = texts! {
     "sync": Shape::Itm(ItmShape::Sync) => [];
     "overflow": Shape::Itm(ItmShape::Overflow) => [];
     "port":
