@@ -3,5 +3,7 @@ pub mod Changes
 pub mod Timed
 pub mod Told
 pub mod ToldValues
+pub mod Splits
+pub mod Losses
 pub mod Packets
 pub mod Declared

@@ -1,33 +1,29 @@
 -- Values and times after one more packet.
-use Rattle.std.proofs.Common.{◌≡◌, ℕ, zero, suc, ◌+◌, ◌%◌, ◌<◌, List, [], ◌∷◌, ◌++◌, refl, sym, ◌∙◌, ap, arith}
+use Rattle.std.proofs.Common.{◌≡◌, ℕ, ◌+◌, ◌%◌, List, [], ◌∷◌, ◌++◌, refl, ◌∙◌, ap, arith}
 use Rattle.std.proofs.Common.{append-nil, Option, None, Some}
 use Rattle.std.proofs.Common.{Bool, true, false, cond, flat_map, inl, inr}
-use Rattle.std.specs.Prelude.{◌==◌, ◌||◌, count_by}
+use Rattle.std.specs.Prelude.{◌==◌, ◌||◌}
 use Rattle.std.specs.List.{list_any}
 use Rattle.std.proofs.lemmas.Bool.{cases_eq}
 use Rattle.std.proofs.lemmas.Bool.Decides.{nat_tests}
 use Rattle.std.proofs.lemmas.Grind.{flat_map-append}
-use Rattle.std.proofs.lemmas.List.Sums.{sum_by-append}
 use Rattle.itm_grammar.specs.declared.packet.Lateness.{Lateness}
 use Rattle.capture_actions.proofs.Timing.{deltas_push}
-use Rattle.value_dump.specs.Names.{ItmPacket, Local, deltas_in}
-use Rattle.value_dump.specs.Dump.{changes, is_local, up_to_stamp}
-use Rattle.value_dump.specs.Signals.{is_overflow, last_told, lost_by, told_by, value_after}
-use Rattle.value_dump.specs.Values.{toggled, value_next}
+use Rattle.value_dump.specs.Names.{ItmPacket, Local, Overflow, deltas_in}
+use Rattle.value_dump.specs.Dump.{changes, up_to_stamp}
+use Rattle.value_dump.specs.Signals.{is_local, is_overflow, last_told, losses, told_by, value_after}
+use Rattle.value_dump.specs.Telling.{toggled, value_next}
 use Rattle.value_dump.proofs.Changes.{same_changes}
+use Rattle.value_dump.proofs.Losses.{one_loss, other_losses}
 
 -- what is told by two lists, one after the other
-told_append : (number : ℕ) (known : Option ℕ) (xs ys : List (ℕ × ℕ)) →
+pub told_append : (number : ℕ) (known : Option ℕ) (xs ys : List (ℕ × ℕ)) →
     last_told number known (xs ++ ys) ≡ last_told number (last_told number known xs) ys
 told_append number known [] ys = refl
 told_append number known (x ∷ xs) ys = told_append number (cond (x.0 == number) (Some x.1) known) xs ys
 
--- one loss more
-some_lost : (count : ℕ) → 0 < count → lost_by count ≡ Some (count % 2)
-some_lost count h =
-    ap (λ (t : Bool). cond t None (Some (count % 2))) (let e : (count == 0) ≡ false = grind (arith, nat_tests) in e)
-
-flips : (n : ℕ) → Some ((n + 1) % 2) ≡ toggled (Some (n % 2))
+-- one stretch with losses more
+pub flips : (n : ℕ) → Some ((n + 1) % 2) ≡ toggled (Some (n % 2))
 flips n = elim (cases_eq (n % 2) 0) [
   | inl e ↦ (
       ap (λ (k : ℕ). Some k) (let f : (n + 1) % 2 ≡ 1 = omega (arith, e) in f)
@@ -39,28 +35,19 @@ flips n = elim (cases_eq (n % 2) 0) [
       )
 ]
 
-one_lost : (count : ℕ) → lost_by (count + 1) ≡ toggled (lost_by count)
-one_lost zero = refl
-one_lost (suc n) =
-    some_lost (suc n + 1) (omega arith) ∙ flips (suc n) ∙ sym (ap toggled (some_lost (suc n) (omega arith)))
+abbrev lost_in : List ItmPacket → Option ℕ
+lost_in packets = Some (losses packets % 2)
 
-lost_more : (count : ℕ) (is_lost : Bool) →
-    lost_by (count + (0 + cond is_lost 1 0)) ≡ cond is_lost (toggled (lost_by count)) (lost_by count)
-lost_more count true = ap lost_by (let e : count + (0 + 1) ≡ count + 1 = omega arith in e) ∙ one_lost count
-lost_more count false = ap lost_by (let e : count + (0 + 0) ≡ count = omega arith in e)
+lost_push : (packets : List ItmPacket) (packet : ItmPacket) → lost_in (packets ++ packet ∷ [])
+    ≡ cond (is_overflow packet) (toggled (lost_in (up_to_stamp packets))) (lost_in packets)
+lost_push packets Overflow =
+    ap (λ (n : ℕ). Some (n % 2)) (one_loss packets) ∙ flips (losses (up_to_stamp packets))
+lost_push packets packet = ap (λ (n : ℕ). Some (n % 2)) (other_losses packets packet refl)
 
 -- the value of a signal
 module _ (packets : List ItmPacket) (packet : ItmPacket) where
-  abbrev losses : List ItmPacket → Option ℕ
-  losses l = lost_by (count_by is_overflow l)
-
   abbrev told : ℕ → List ItmPacket → Option ℕ
   told number l = last_told number None (flat_map told_by l)
-
-  lost_push : losses (packets ++ packet ∷ []) ≡ cond (is_overflow packet) (toggled (losses packets)) (losses packets)
-  lost_push =
-      ap lost_by (sum_by-append (λ (p : ItmPacket). cond (is_overflow p) 1 0) packets (packet ∷ []))
-      ∙ lost_more (count_by is_overflow packets) (is_overflow packet)
 
   told_push : (number : ℕ) →
       told number (packets ++ packet ∷ []) ≡ last_told number (told number packets) (told_by packet)
@@ -70,14 +57,15 @@ module _ (packets : List ItmPacket) (packet : ItmPacket) where
       ∙ ap (λ (l : List (ℕ × ℕ)). flat_map told_by packets ++ l) (append-nil (told_by packet)))
       ∙ told_append number None (flat_map told_by packets) (told_by packet)
 
-  pub value_push : (number : ℕ) →
-      value_after (packets ++ packet ∷ []) number ≡ value_next packet number (value_after packets number)
+  pub value_push : (number : ℕ) → value_after (packets ++ packet ∷ []) number
+      ≡ value_next packet number (value_after (up_to_stamp packets) number) (value_after packets number)
   value_push number = by (number == 39) where
-    by : (t : Bool) → cond t (losses (packets ++ packet ∷ [])) (told number (packets ++ packet ∷ []))
-        ≡ cond t (cond (is_overflow packet) (toggled (cond t (losses packets) (told number packets)))
-        (cond t (losses packets) (told number packets)))
-        (last_told number (cond t (losses packets) (told number packets)) (told_by packet))
-    by true = lost_push
+    by : (t : Bool) → cond t (lost_in (packets ++ packet ∷ [])) (told number (packets ++ packet ∷ []))
+        ≡ cond t (cond (is_overflow packet)
+        (toggled (cond t (lost_in (up_to_stamp packets)) (told number (up_to_stamp packets))))
+        (cond t (lost_in packets) (told number packets)))
+        (last_told number (cond t (lost_in packets) (told number packets)) (told_by packet))
+    by true = lost_push packets packet
     by false = told_push number
 
 -- which a local timestamp leaves as it is

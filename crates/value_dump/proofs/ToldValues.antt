@@ -10,7 +10,7 @@ use Rattle.dwt_packets.proofs.Inverses.{in_range}
 use Rattle.value_dump.specs.Names.{DwtItem, Exception, Sample, Asleep, Read, Written, Enter, Exit, Return, IsInRange}
 use Rattle.value_dump.specs.Names.{ItmPacket, Hardware, IsProper, name}
 use Rattle.value_dump.specs.Signals.{last_told, told_by_item}
-use Rattle.value_dump.specs.Values.{value_next}
+use Rattle.value_dump.specs.Telling.{value_next}
 
 -- what a packet means has its numbers in their ranges
 pub means_proper : (packet : ItmPacket) (disc : ℕ) (size : Size) (value : ℕ) → packet ≡ Hardware disc size value →
@@ -39,9 +39,9 @@ none_lost (Other disc size value) h known = refl
 
 -- so a hardware packet tells of all signals as its item
 pub item_next : (disc : ℕ) (size : Size) (value : ℕ) → IsInRange (name disc size value) → (number : ℕ)
-    (known : Option ℕ) →
-    last_told number known (told_by_item (name disc size value)) ≡ value_next (Hardware disc size value) number known
-item_next disc size value h number known = elim (cases_eq number 39) [
+    (stamped known : Option ℕ) → last_told number known (told_by_item (name disc size value))
+    ≡ value_next (Hardware disc size value) number stamped known
+item_next disc size value h number stamped known = elim (cases_eq number 39) [
   | inl e ↦ (
       ap (λ (n : ℕ). last_told n known (told_by_item (name disc size value))) e
       ∙ none_lost (name disc size value) h known

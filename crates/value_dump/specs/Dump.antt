@@ -1,15 +1,10 @@
 -- The value dump of an ITM source: at each local timestamp the signals that changed since the one before it.
-use Rattle.std.specs.Prelude.{ℕ, List, [], ◌∷◌, ◌++◌, Option, None, Some, Bool, true, false, ◌==◌, if◌then◌else◌}
+use Rattle.std.specs.Prelude.{ℕ, List, [], ◌∷◌, ◌++◌, Option, None, Some, Bool, false, ◌==◌, if◌then◌else◌}
 use Rattle.std.specs.Prelude.{zero, suc, get_or}
 use Rattle.std.specs.List.{list_any}
-use Rattle.value_dump.specs.Names.{ItmPacket, Local, local_after}
-use Rattle.value_dump.specs.Signals.{value_after}
+use Rattle.value_dump.specs.Names.{ItmPacket, local_after}
+use Rattle.value_dump.specs.Signals.{is_local, value_after}
 use Rattle.value_dump.specs.Lines.{value_line, timed, nanoseconds}
-
--- it is a local timestamp
-abbrev pub is_local : ItmPacket → Bool
-is_local (Local lateness delta) = true
-is_local packet = false
 
 -- these packets up to the last local timestamp
 abbrev pub up_to_stamp : List ItmPacket → List ItmPacket

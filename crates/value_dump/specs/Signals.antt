@@ -2,9 +2,9 @@
 -- Manual, Arm DDI 0403E, appendix D4 'Debug ITM and DWT Packet Protocol').
 use Rattle.std.specs.Prelude.{ℕ, ◌+◌, ◌%◌, List, [], ◌∷◌, ◌++◌, Option, None, Some, Bool, true, false, ◌==◌, ◌||◌}
 use Rattle.std.specs.Prelude.{if◌then◌else◌, flat_map, map, codes, decimal, count_by}
-use Rattle.std.specs.List.{range_with_len}
-use Rattle.value_dump.specs.Names.{ItmPacket, Software, Hardware, Overflow, DwtItem, Exception, Sample, Asleep, Read}
-use Rattle.value_dump.specs.Names.{Written, Enter, Exit, Return, name}
+use Rattle.std.specs.List.{list_any, range_with_len, slice_split}
+use Rattle.value_dump.specs.Names.{ItmPacket, Software, Hardware, Overflow, Local, DwtItem, Exception, Sample, Asleep}
+use Rattle.value_dump.specs.Names.{Read, Written, Enter, Exit, Return, name}
 
 -- a signal, and how many bits it has
 pub record Signal : Type 0 where
@@ -20,7 +20,8 @@ numbered name count = map (λ n. signal (name ++ decimal n) 32) (range_with_len 
 
 -- All signals: a signal's number is its place here, from 0 on. They are the exception that was entered or returned to,
 -- the last sample of the program counter, whether the processor was asleep at the last one, what software wrote to
--- each stimulus port, the data value of each comparator, and one that changes whenever packets were lost.
+-- each stimulus port, the data value of each comparator, and one that changes at each local timestamp before which
+-- packets were lost since the one before.
 abbrev pub signals : List Signal
 signals =
     signal (codes "exception") 9
@@ -79,11 +80,18 @@ abbrev pub is_overflow : ItmPacket → Bool
 is_overflow Overflow = true
 is_overflow packet = false
 
--- of so many losses the first sets the signal, and each changes it
-abbrev pub lost_by : ℕ → Option ℕ
-lost_by count = if count == 0 then None else Some (count % 2)
+-- it is a local timestamp
+abbrev pub is_local : ItmPacket → Bool
+is_local (Local lateness delta) = true
+is_local packet = false
 
--- the value of a signal after these packets, if it is known
+-- how many of the stretches between local timestamps have a loss: the first is that before the first timestamp, and the
+-- last that after the last
+abbrev pub losses : List ItmPacket → ℕ
+losses packets = count_by (list_any is_overflow) (slice_split is_local packets)
+
+-- The value of a signal after these packets, if it is known. That of losses is 0 at first, and each stretch that has a
+-- loss changes it, however many it has.
 abbrev pub value_after : List ItmPacket → ℕ → Option ℕ
 value_after packets number =
-    if number == lost then lost_by (count_by is_overflow packets) else last_told number None (flat_map told_by packets)
+    if number == lost then Some (losses packets % 2) else last_told number None (flat_map told_by packets)

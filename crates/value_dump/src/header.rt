@@ -14,7 +14,7 @@ const COMMENT_ROOM: usize = 90;
 /// The most bytes of a header.
 pub const HEADER_ROOM: usize = 1436;
 
-/// The declarations of all signals, and that none is known.
+/// The declarations of all signals, and their values before the first packet.
 const DECLARATIONS: &[u8] = b"\
     $scope module itm $end\n$var wire 9 ! exception $end\n$var wire 32 \" pc $end\n\
     $var wire 1 # asleep $end\n$var wire 32 $ port0 $end\n$var wire 32 % port1 $end\n\
@@ -32,7 +32,7 @@ const DECLARATIONS: &[u8] = b"\
     $var wire 32 G cmp3 $end\n$var wire 1 H lost $end\n$upscope $end\n$enddefinitions $end\n$dumpvars\n\
     bx !\nbx \"\nx#\nbx $\nbx %\nbx &\nbx '\nbx (\nbx )\nbx *\nbx +\nbx ,\nbx -\nbx .\nbx /\nbx 0\n\
     bx 1\nbx 2\nbx 3\nbx 4\nbx 5\nbx 6\nbx 7\nbx 8\nbx 9\nbx :\nbx ;\nbx <\nbx =\nbx >\nbx ?\nbx @\n\
-    bx A\nbx B\nbx C\nbx D\nbx E\nbx F\nbx G\nxH\n$end\n";
+    bx A\nbx B\nbx C\nbx D\nbx E\nbx F\nbx G\n0H\n$end\n";
 
 /// Puts how times are meant.
 fn put_comment(outlet: &mut Outlet, hz: Option<u64>)

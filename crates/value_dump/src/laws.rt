@@ -1,9 +1,14 @@
 //! Laws of value dumps, over their definitions alone.
 
-ghost use Rattle.std.specs.Prelude.{◌≡◌, ◌*◌, ◌^◌, ◌<◌, ◌≤◌, ◌++◌, [], ℕ, Some, codes, decimal, false, get_or, length};
+ghost use Rattle.std.specs.Prelude.{◌≡◌, ◌*◌, ◌^◌, ◌<◌, ◌≤◌, ◌++◌, ◌∷◌, [], ℕ, List, Some, codes, decimal, true};
+ghost use Rattle.std.specs.Prelude.{false, get_or, length, if◌then◌else◌};
 ghost use Rattle.std.specs.Fmt.{digits};
+ghost use Rattle.std.specs.List.{list_any};
 ghost use Rattle.value_dump.specs.Lines.{binary, nanoseconds};
-ghost use Rattle.value_dump.specs.Signals.{asleep, cmp, exception, lost, pc, port, signal, signals};
+ghost use Rattle.value_dump.specs.Names.{ItmPacket};
+ghost use Rattle.value_dump.specs.Signals.{asleep, cmp, exception, is_local, is_overflow, lost, pc, port, signal};
+ghost use Rattle.value_dump.specs.Signals.{signals, value_after};
+ghost use Rattle.value_dump.specs.Telling.{toggled};
 
 /// The digits of a value are those of its number in binary, without leading zeros.
 pub fn binary_law()
@@ -27,4 +32,18 @@ pub fn signals_law()
         get_or signals (cmp n) (signal [] 0) ≡ signal (codes "cmp" ++ decimal n) 32 }
     ensures lost { get_or signals lost (signal [] 0) ≡ signal (codes "lost") 1 }
     ensures all { length signals ≡ 40 }
+{}
+
+/// The signal of losses is 0 at first, and changes at a local timestamp exactly if an overflow packet came since the one
+/// before, or since the start.
+pub fn losses_law()
+    ensures start { value_after [] lost ≡ Some 0 }
+    ensures first { (stretch : List ItmPacket) (stamp : ItmPacket) → list_any is_local stretch ≡ false →
+        is_local stamp ≡ true → let old = value_after [] lost in
+        value_after (stretch ++ stamp ∷ []) lost ≡ (if list_any is_overflow stretch then toggled old else old) }
+    ensures next { (packets stretch : List ItmPacket) (before stamp : ItmPacket) → is_local before ≡ true →
+        list_any is_local stretch ≡ false → is_local stamp ≡ true →
+        let old = value_after (packets ++ before ∷ []) lost in
+        value_after (packets ++ before ∷ (stretch ++ stamp ∷ [])) lost ≡
+        (if list_any is_overflow stretch then toggled old else old) }
 {}

@@ -15,7 +15,7 @@ pub const FIRST_PORT: usize = 3;
 /// The data value of comparator 0; those of the comparators 1 to 3 come after it.
 pub const FIRST_COMPARATOR: usize = 35;
 
-/// What changes whenever packets were lost.
+/// What changes at a local timestamp before which, since the one before, packets were lost.
 pub const LOST: usize = 39;
 
 /// How many signals there are.

@@ -1,25 +1,16 @@
 //! What packets tell of signals.
 
-ghost use Rattle.std.specs.Prelude.{◌≡◌, ◌+◌, ◌*◌, ◌≤◌, ◌<◌, ℕ, Some};
+ghost use Rattle.std.specs.Prelude.{◌≡◌, ◌+◌, ◌*◌, ◌≤◌, ◌<◌, ℕ};
 ghost use Rattle.value_dump.specs.Names.{Exception, IsInRange, IsProper, Sample};
 ghost use Rattle.value_dump.specs.Signals.{last_told, told_by_item};
-ghost use Rattle.value_dump.specs.Values.{latest_of, owed_by, toggled, value_next};
+ghost use Rattle.value_dump.specs.Telling.{value_next};
+ghost use Rattle.value_dump.specs.Values.{latest_of, owed_by, stamped_of};
 ghost use Rattle.value_dump.specs.declared.values.TheConstants.{LINE_ROOM};
 
-use crate::signals::{ASLEEP, EXCEPTION, FIRST_COMPARATOR, FIRST_PORT, LOST, PC};
+use crate::signals::{ASLEEP, EXCEPTION, FIRST_COMPARATOR, FIRST_PORT, PC};
 use crate::values::SignalValues;
 use dwt_packets::{Change, DwtItem, meaning};
 use itm_grammar::packet::ItmPacket;
-
-/// The value of the signal of losses after one more.
-fn toggled(value: Option<u32>) -> u32
-    ensures { Some result ≡ toggled value }
-{
-    match value {
-        None | Some(0) => 1,
-        Some(_) => 0,
-    }
-}
 
 /// Takes what the processor did at an exception.
 fn tell_exception(values: &mut SignalValues, number: u16, change: Change)
@@ -78,14 +69,14 @@ fn tell_item(values: &mut SignalValues, item: &DwtItem)
 pub(crate) fn tell(values: &mut SignalValues, packet: &ItmPacket)
     requires { IsProper packet.now }
     ensures latest { (number : ℕ) → latest_of values.new number ≡
-        value_next packet.now number (latest_of values.old number) }
+        value_next packet.now number (stamped_of values.old number) (latest_of values.old number) }
     ensures stamped { values.new.stamped ≡ values.old.stamped }
     ensures owed { owed_by values.new ≤ owed_by values.old + 2 * LINE_ROOM }
 {
     match *packet {
         ItmPacket::Software { port, value, .. } => values.set(FIRST_PORT + port as usize, value),
         ItmPacket::Hardware { disc, size, value } => tell_item(values, &meaning(disc, size, value)),
-        ItmPacket::Overflow => values.set(LOST, toggled(values.value(LOST))),
+        ItmPacket::Overflow => values.lose(),
         ItmPacket::Sync
         | ItmPacket::Local { .. }
         | ItmPacket::GlobalFirst { .. }

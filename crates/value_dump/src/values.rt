@@ -4,14 +4,15 @@ ghost use Rattle.std.specs.Prelude.{◌≡◌, ◌+◌, ◌*◌, ◌≤◌, ◌<
 ghost use Rattle.std.specs.Prelude.{◌||◌, List};
 ghost use Rattle.std.specs.Int.{bit_at};
 ghost use Rattle.value_dump.specs.Dump.{change, changes, known};
-ghost use Rattle.value_dump.specs.Signals.{last_told};
+ghost use Rattle.value_dump.specs.Signals.{last_told, value_after};
 ghost use Rattle.value_dump.specs.Lines.{are_some, line_of, lines_with, timed};
-ghost use Rattle.value_dump.specs.Names.{OUTLET_ROOM};
+ghost use Rattle.value_dump.specs.Names.{Overflow, OUTLET_ROOM};
+ghost use Rattle.value_dump.specs.Telling.{toggled, value_next};
 ghost use Rattle.value_dump.specs.declared.signals.TheConstants.{SIGNALS};
 ghost use Rattle.value_dump.specs.declared.values.TheConstants.{ALL_ROOM, LINE_ROOM, TIME_ROOM};
 
 use crate::lines::put_line;
-use crate::signals::SIGNALS;
+use crate::signals::{LOST, SIGNALS};
 use trace_stream::Outlet;
 
 /// The most bytes of the line of a value.
@@ -47,18 +48,30 @@ fn changed_value(old: Option<u32>, new: Option<u32>) -> Option<u32>
     }
 }
 
+/// The other value of a bit.
+fn toggled(value: Option<u32>) -> u32
+    ensures { Some result ≡ toggled value }
+{
+    match value {
+        None | Some(0) => 1,
+        Some(_) => 0,
+    }
+}
+
 impl SignalValues {
     ghost use Rattle.value_dump.specs.Values.{latest_of, owed_by, stamped_of};
 
-    /// None is known.
+    /// No packet came yet: nothing was lost, and no other value is known.
     pub fn new() -> SignalValues
-        ensures latest { (number : ℕ) → latest_of result number ≡ None }
-        ensures stamped { (number : ℕ) → stamped_of result number ≡ None }
+        ensures latest { (number : ℕ) → latest_of result number ≡ value_after [] number }
+        ensures stamped { (number : ℕ) → stamped_of result number ≡ value_after [] number }
         ensures owed { owed_by result ≡ 0 }
     {
+        let mut values = [None; SIGNALS];
+        values[LOST] = Some(0);
         SignalValues {
-            latest: [None; SIGNALS],
-            stamped: [None; SIGNALS],
+            latest: values,
+            stamped: values,
             told: 0,
             owed: 0,
         }
@@ -72,14 +85,6 @@ impl SignalValues {
         self.owed
     }
 
-    /// The value of this signal, if it is known.
-    pub fn value(&self, number: usize) -> Option<u32>
-        requires { number < SIGNALS }
-        ensures { result ≡ latest_of self.now number }
-    {
-        self.latest[number]
-    }
-
     /// The signal has this value from now on.
     pub fn set(&mut self, number: usize, value: u32)
         requires { number < SIGNALS }
@@ -91,6 +96,16 @@ impl SignalValues {
         self.latest[number] = Some(value);
         self.told |= 1 << number;
         self.owed = (self.owed + LINE_ROOM).min(ALL_ROOM);
+    }
+
+    /// Packets were lost: the signal of losses has another value than at the last local timestamp.
+    pub fn lose(&mut self)
+        ensures latest { (number : ℕ) → latest_of self.new number ≡
+            value_next Overflow number (stamped_of self.old number) (latest_of self.old number) }
+        ensures stamped { self.new.stamped ≡ self.old.stamped }
+        ensures owed { owed_by self.new ≤ owed_by self.old + LINE_ROOM }
+    {
+        self.set(LOST, toggled(self.stamped[LOST]));
     }
 
     /// A local timestamp is here: no signal changed since.

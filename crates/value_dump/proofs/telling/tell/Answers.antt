@@ -1,7 +1,8 @@
 use Rattle.std.proofs.Common.{◌∙◌, ap, sym, subst}
 use Rattle.value_dump.specs.Names.{DwtItem, IsInRange, ItmPacket}
 use Rattle.value_dump.specs.Signals.{last_told, told_by_item}
-use Rattle.value_dump.specs.Values.{latest_of, value_next}
+use Rattle.value_dump.specs.Telling.{value_next}
+use Rattle.value_dump.specs.Values.{latest_of, stamped_of}
 use Rattle.value_dump.proofs.ToldValues.{item_next, means_proper}
 use Rattle.value_dump.proofs.telling.tell.Goals as goal
 
@@ -14,8 +15,9 @@ pub returns-in-Hardware-clause-latest : goal.returns-in-Hardware-clause-latest
 returns-in-Hardware-clause-latest c = λ number.
     let h = c.in-Hardware in
     let known = latest_of c.args.values.now number in
+    let stamped = stamped_of c.args.values.now number in
     c.tell_item.ensures.latest number
     ∙ ap (λ (item : DwtItem). last_told number known (told_by_item item)) c.meaning.ensures
     ∙ item_next h.disc h.size h.value (means_proper c.args.packet.now h.disc h.size h.value h.is c.requires) number
-    known
-    ∙ ap (λ (packet : ItmPacket). value_next packet number known) (sym h.is)
+    stamped known
+    ∙ ap (λ (packet : ItmPacket). value_next packet number stamped known) (sym h.is)
