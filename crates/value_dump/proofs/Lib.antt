@@ -7,3 +7,8 @@ pub mod Splits
 pub mod Losses
 pub mod Packets
 pub mod Declared
+pub mod ReadLines
+pub mod Fits
+pub mod ReadBack
+pub mod ReadHeader
+pub mod ReadAt

@@ -1,6 +1,6 @@
 -- The value dump of an ITM source: at each local timestamp the signals that changed since the one before it.
 use Rattle.std.specs.Prelude.{ℕ, List, [], ◌∷◌, ◌++◌, Option, None, Some, Bool, false, ◌==◌, if◌then◌else◌}
-use Rattle.std.specs.Prelude.{zero, suc, get_or}
+use Rattle.std.specs.Prelude.{zero, suc, get_or, ◌&&◌, nat_lt}
 use Rattle.std.specs.List.{list_any}
 use Rattle.value_dump.specs.Names.{ItmPacket, local_after}
 use Rattle.value_dump.specs.Signals.{is_local, value_after}
@@ -53,3 +53,19 @@ pending hz packets = stamp_lines hz packets packets
 -- the value that a list has of a signal, if it is known
 abbrev pub known : List (Option ℕ) → ℕ → Option ℕ
 known values number = get_or values number None
+
+-- these packets, after those before them, up to the first local timestamp that is later than a time
+abbrev pub packets_until : Option ℕ → ℕ → List ItmPacket → List ItmPacket → List ItmPacket
+packets_until hz time before [] = []
+packets_until hz time before (packet ∷ packets) =
+    if is_local packet && nat_lt time (nanoseconds hz (local_after (before ++ packet ∷ [])))
+    then []
+    else packet ∷ packets_until hz time (before ++ packet ∷ []) packets
+
+-- those that a dump shows at a time: up to the last local timestamp that is not later, and from the time of the last of
+-- all on, all of them
+abbrev pub packets_shown : Option ℕ → ℕ → List ItmPacket → List ItmPacket
+packets_shown hz time packets =
+    if nat_lt time (nanoseconds hz (local_after packets))
+    then up_to_stamp (packets_until hz time [] packets)
+    else packets

@@ -3,6 +3,7 @@ pub mod Signals
 pub mod Header
 pub mod Lines
 pub mod Dump
+pub mod Reading
 pub mod Telling
 pub mod Values
 pub mod Dumping

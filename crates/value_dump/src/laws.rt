@@ -1,11 +1,15 @@
 //! Laws of value dumps, over their definitions alone.
 
-ghost use Rattle.std.specs.Prelude.{◌≡◌, ◌*◌, ◌^◌, ◌<◌, ◌≤◌, ◌++◌, ◌∷◌, [], ℕ, List, Some, codes, decimal, true};
-ghost use Rattle.std.specs.Prelude.{false, get_or, length, if◌then◌else◌};
+ghost use Rattle.std.specs.Prelude.{◌≡◌, ◌*◌, ◌^◌, ◌<◌, ◌≤◌, ◌++◌, ◌∷◌, [], ℕ, List, Option, Some, codes, decimal};
+ghost use Rattle.std.specs.Prelude.{true, false, get_or, length, flat_map, sum, if◌then◌else◌};
+ghost use Rattle.std.specs.Option.{ForSome};
 ghost use Rattle.std.specs.Fmt.{digits};
-ghost use Rattle.std.specs.List.{list_any};
+ghost use Rattle.std.specs.List.{All, list_any};
+ghost use Rattle.value_dump.specs.Dump.{lines_after, packet_lines, packets_shown, pending, up_to_stamp};
+ghost use Rattle.value_dump.specs.Header.{header};
 ghost use Rattle.value_dump.specs.Lines.{binary, nanoseconds};
-ghost use Rattle.value_dump.specs.Names.{ItmPacket};
+ghost use Rattle.value_dump.specs.Names.{IsProper, ItmPacket, deltas_in, local_after};
+ghost use Rattle.value_dump.specs.Reading.{time_read, value_read, value_shown};
 ghost use Rattle.value_dump.specs.Signals.{asleep, cmp, exception, is_local, is_overflow, lost, pc, port, signal};
 ghost use Rattle.value_dump.specs.Signals.{signals, value_after};
 ghost use Rattle.value_dump.specs.Telling.{toggled};
@@ -34,8 +38,8 @@ pub fn signals_law()
     ensures all { length signals ≡ 40 }
 {}
 
-/// The signal of losses is 0 at first, and changes at a local timestamp exactly if an overflow packet came since the one
-/// before, or since the start.
+/// The signal of losses is 0 at first, and changes at a local timestamp exactly if an overflow packet came since the
+/// one before, or since the start.
 pub fn losses_law()
     ensures start { value_after [] lost ≡ Some 0 }
     ensures first { (stretch : List ItmPacket) (stamp : ItmPacket) → list_any is_local stretch ≡ false →
@@ -46,4 +50,27 @@ pub fn losses_law()
         let old = value_after (packets ++ before ∷ []) lost in
         value_after (packets ++ before ∷ (stretch ++ stamp ∷ [])) lost ≡
         (if list_any is_overflow stretch then toggled old else old) }
+{}
+
+/// A dump reads back. Whoever takes its lines one after the other, as the standard says, has for the name of each
+/// signal the last value that the packets up to the last local timestamp tell, and after what is pending that which all
+/// tell; what none told is unknown. What is put for a local timestamp is read at its time. So of a whole dump whose
+/// ticks do not pass 64 bits a viewer shows at each time the last values up to the last local timestamp that is not
+/// later, and from the time of the last of all on those of all packets.
+pub fn reading_law()
+    ensures stamped { (hz : Option ℕ) (packets : List ItmPacket) (number : ℕ) → All IsProper packets →
+        number < length signals → let name = (get_or signals number (signal [] 0)).name in
+        value_read name (header hz ++ lines_after hz [] packets) ≡ value_after (up_to_stamp packets) number }
+    ensures ended { (hz : Option ℕ) (packets : List ItmPacket) (number : ℕ) → All IsProper packets →
+        number < length signals → let name = (get_or signals number (signal [] 0)).name in
+        value_read name (header hz ++ (lines_after hz [] packets ++ pending hz packets)) ≡ value_after packets number }
+    ensures time { (hz : Option ℕ) (packets : List ItmPacket) (packet : ItmPacket) →
+        All IsProper packets → IsProper packet → 0 < length (packet_lines hz packets packet) →
+        time_read (header hz ++ (lines_after hz [] packets ++ packet_lines hz packets packet)) ≡
+        Some (nanoseconds hz (local_after (packets ++ packet ∷ []))) }
+    ensures shown { (hz : Option ℕ) (packets : List ItmPacket) (number time : ℕ) → ForSome hz (λ n. 0 < n) →
+        All IsProper packets → sum (flat_map deltas_in packets) < 2 ^ 64 → number < length signals →
+        let name = (get_or signals number (signal [] 0)).name in
+        value_shown name time (header hz ++ (lines_after hz [] packets ++ pending hz packets)) ≡
+        value_after (packets_shown hz time packets) number }
 {}
