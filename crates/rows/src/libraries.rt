@@ -3,21 +3,36 @@
 use crate::notation::Words;
 use crate::out::Out;
 use crate::{
-    decimal_words_rows, deformatter_rows, dwt_packets_rows, frame_grammar_rows, frame_writer_rows,
-    itm_grammar_rows, port_sync_rows, source_counts_rows, stp_codec_rows, stp_encoder_rows,
-    stp_grammar_rows, trace_clock_rows, trace_text_rows, trace_values_rows,
+    buffer_ring_rows, decimal_words_rows, deformatter_rows, dwt_packets_rows, frame_grammar_rows,
+    frame_writer_rows, item_tap_rows, itm_grammar_rows, port_slip_rows, port_sync_rows,
+    script_text_rows, source_counts_rows, source_events_rows, source_merge_rows, stp_codec_rows,
+    stp_encoder_rows, stp_grammar_rows, trace_clock_rows, trace_funnel_rows, trace_text_rows,
+    trace_values_rows,
 };
 use trace_vectors::item_at;
 
-/// Runs a row of ports and frames.
+/// Runs a row of all sources.
+fn run_sources(library: &str, call: &str, words: Words<'_>, out: &mut Out) {
+    match library {
+        "item_tap" => item_tap_rows::run(call, words, out),
+        "source_counts" => source_counts_rows::run(call, words, out),
+        "source_events" => source_events_rows::run(call, words, out),
+        "source_merge" => source_merge_rows::run(call, words, out),
+        _ => out.put("  ? no such library\n"),
+    }
+}
+
+/// Runs a row of ports and frames, or of all sources.
 fn run_port(library: &str, call: &str, words: Words<'_>, out: &mut Out) {
     match library {
+        "buffer_ring" => buffer_ring_rows::run(call, words, out),
         "deformatter" => deformatter_rows::run(call, words, out),
         "frame_grammar" => frame_grammar_rows::run(call, words, out),
         "frame_writer" => frame_writer_rows::run(call, words, out),
+        "port_slip" => port_slip_rows::run(call, words, out),
         "port_sync" => port_sync_rows::run(call, words, out),
-        "source_counts" => source_counts_rows::run(call, words, out),
-        _ => out.put("  ? no such library\n"),
+        "trace_funnel" => trace_funnel_rows::run(call, words, out),
+        _ => run_sources(library, call, words, out),
     }
 }
 
@@ -39,6 +54,7 @@ fn run_packets(library: &str, call: &str, words: Words<'_>, out: &mut Out) {
 fn run(library: &str, call: &str, mut words: Words<'_>, out: &mut Out) {
     match library {
         "decimal_words" => decimal_words_rows::run(call, words, out),
+        "script_text" => script_text_rows::run(call, words, out),
         "trace_text" => trace_text_rows::run(call, words, out),
         "trace_values" => trace_values_rows::run(call, words, out),
         "trace_vectors" => out.value(&item_at(words.quarter())),

@@ -46,26 +46,34 @@
 #![tactic(auto)]
 
 mod answer;
+mod buffer_ring_rows;
 mod decimal_words_rows;
 mod deformatter_rows;
 mod desk;
 mod dwt_packets_rows;
 mod frame_grammar_rows;
 mod frame_writer_rows;
+mod item_tap_rows;
 mod itm_grammar_rows;
 mod libraries;
 mod names;
 mod notation;
 mod out;
+mod plans;
+mod port_slip_rows;
 mod port_sync_rows;
 mod row;
+mod script_text_rows;
 mod sheet;
 mod source_counts_rows;
+mod source_events_rows;
+mod source_merge_rows;
 mod stp_codec_rows;
 mod stp_encoder_rows;
 mod stp_grammar_rows;
 mod stp_words;
 mod trace_clock_rows;
+mod trace_funnel_rows;
 mod trace_text_rows;
 mod trace_values_rows;
 
