@@ -45,7 +45,13 @@ fn words_of(alloc: Global, call: &str) -> Result<Vec<String>, AllocError> {
 }
 
 /// Lists a capture, and keeps the greatest lengths of its reads and of its writes.
-fn list(alloc: Global, words: &[String], capture: &[u8], read: &mut usize, written: &mut usize) -> Status {
+fn list(
+    alloc: Global,
+    words: &[String],
+    capture: &[u8],
+    read: &mut usize,
+    written: &mut usize,
+) -> Status {
     let mut input = ReadAdapter::new(Longest {
         length: read,
         inner: capture,
@@ -67,6 +73,7 @@ fn reads_and_writes_are_as_long_as_the_buffers(rt: HostRuntime) -> Result<(), Fa
     same(&rt, &"status", &status, &Status::Done);
     same(&rt, &"read", &read, &16_384);
     // The outlet is written once it has no room for the 4,096 bytes of one call.
-    same(&rt, &written, &(written > 28_672 && written <= 32_768), &true);
+    let is_long = 28_672 < written && written <= 32_768;
+    same(&rt, &written, &is_long, &true);
     Ok(())
 }

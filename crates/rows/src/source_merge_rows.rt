@@ -80,7 +80,11 @@ fn feed_piece(engine: &mut Engine, piece: &[u8], out: &mut Out) {
 /// Writes what offset is next, and whether there was a fault.
 fn put_end(engine: &Engine, out: &mut Out) {
     out.put_value("  next ", &engine.next());
-    out.put(if engine.is_live() { " live\n" } else { " stopped\n" });
+    out.put(if engine.is_live() {
+        " live\n"
+    } else {
+        " stopped\n"
+    });
 }
 
 /// `PACKETS ITM STP`: an engine of a plan that begins to read sources so and maps these, if it is sound.

@@ -121,7 +121,13 @@ fn acts(mut words: Words<'_>, out: &mut Out) {
     let order = order_of(words.word());
     let (hold, depth) = (words.byte(), words.half() as usize);
     let count = order.as_slice().len();
-    if count < 1 || !are_apart(order.as_slice()) || hold < 1 || hold > 15 || depth < 1 || depth > 4096 {
+    if count < 1
+        || !are_apart(order.as_slice())
+        || hold < 1
+        || hold > 15
+        || depth < 1
+        || depth > 4096
+    {
         return out.put("  ? no funnel\n");
     }
     match Funnel::new(out.alloc, order.as_array(), hold, depth) {
