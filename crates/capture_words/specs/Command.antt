@@ -52,15 +52,15 @@ with_options (option ∷ options) app = with_options options (with_rule app (opt
 
 -- the command, with its action and its options, and no defaults of clap's
 unfoldable pub trace_app : App
-trace_app = with_options ALL_OPTIONS (with_rule (new_app (codes "trace")) action_rule)
+trace_app = with_options ALL_OPTIONS (with_rule (new_app (codes "lipparoy")) action_rule)
 
 -- the entries of the words, by clap's function of a simple command's words; the program's name is in front
 abbrev pub rows_of_words : List Text → List Row
-rows_of_words words = matches_of trace_app (codes "trace" ∷ words)
+rows_of_words words = matches_of trace_app (codes "lipparoy" ∷ words)
 
 -- why clap refuses the words
 abbrev pub refusals : List Text → Kinds
-refusals words = fault_of trace_app (codes "trace" ∷ words)
+refusals words = fault_of trace_app (codes "lipparoy" ∷ words)
 
 -- the words are a call of the command
 abbrev pub IsCall : List Text → Type 0

@@ -8,19 +8,12 @@ use crate::option::{ALL_OPTIONS, CommandOption};
 use clap::{Arg, ArgAction, Command};
 use std::alloc::{AllocError, Global};
 
-/// What `--help` says below the options: how a capture is given.
-const CAPTURE_HELP: &str =
-    "The capture, or for rebuild the script and for unring the image, is read from standard input, as in: \
-    ./lipparoy check < CAPTURE";
+/// What `--help` says below the options.
+const CAPTURE_HELP: &str = "Input is standard input, as in: lipparoy check < CAPTURE";
 
 /// What `--help` says of the action.
 const ACTION_HELP: &str =
-    "show lists events, split writes the bytes of one source, check counts those of each, rebuild \
-    writes the capture of a script, exercise tries the tool on a capture of its own, realign writes a capture \
-    that lost bits in whole bytes again, ring writes the image of a trace buffer that took a capture, unring \
-    writes the bytes of such an image from the oldest on, text writes what software sent to a stimulus port, funnel \
-    writes the capture of a script whose bytes pass through a funnel, vcd writes values and exceptions over time as a \
-    value change dump";
+    "show, split, check, text, vcd, rebuild, funnel, realign, ring, unring, exercise";
 
 /// The command with this option besides. It takes one value, and is given once at most.
 fn with_option<'a>(
@@ -34,19 +27,20 @@ fn with_option<'a>(
     let arg = Arg::new(alloc, name)
         .long(name)
         .help(help)
+        .help_heading(option.heading())
         .action(ArgAction::Set);
     command.arg(arg)
 }
 
 /// The command with its action alone.
 fn with_action<'a>(alloc: Global) -> Result<Command<'a>, AllocError>
-    ensures { IfOk result (λ c. app_of c ≡ with_rule (new_app (codes "trace")) action_rule) }
+    ensures { IfOk result (λ c. app_of c ≡ with_rule (new_app (codes "lipparoy")) action_rule) }
 {
     let action = Arg::new(alloc, "action")
         .help(ACTION_HELP)
         .required(true)
         .action(ArgAction::Set);
-    Command::new(alloc, "trace")
+    Command::new(alloc, "lipparoy")
         .after_help(CAPTURE_HELP)
         .arg(action)
 }

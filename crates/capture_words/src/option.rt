@@ -82,112 +82,109 @@ pub(crate) const ALL_OPTIONS: [CommandOption; 23] = [
 ];
 
 impl CommandOption {
-    /// The name of the option, after the two dashes, and what `--help` says of it.
+    /// The name of the option, after the two dashes, and what `--help` says of it. `{n}` ends a line there.
     pub(crate) fn texts<'a>(self) -> (&'a str, &'a str)
         ensures { result.0.now ≡ option_name self }
     {
         match self {
             CommandOption::Frames => (
                 "frames",
-                "Where frames begin: hunt (at the first full synchronisation, the default), aligned (at the \
-                first byte) or bare (there are none)",
+                "Where frames begin: hunt (default), aligned (at byte 0) or bare (no frames)",
             ),
             CommandOption::Packets => (
                 "packets",
-                "Where packets begin: hunt (at the first synchronisation packet, the default) or aligned (at \
-                the first byte)",
+                "Where packets begin: hunt (default) or aligned (at a source's first byte)",
             ),
-            CommandOption::Itm => (
-                "itm",
-                "The sources that send ITM packets: one to eight from 1 to 111, with commas between",
-            ),
-            CommandOption::Stp => (
-                "stp",
-                "The sources that send STP packets: one to eight from 1 to 111, with commas between",
-            ),
+            CommandOption::Itm => ("itm", "ITM sources: up to eight IDs, 1 to 111, as in 1,2"),
+            CommandOption::Stp => ("stp", "STP sources: up to eight IDs, 1 to 111, as in 1,2"),
             CommandOption::StpOrder => (
                 "stp-order",
-                "Which nibble of an STP value comes first: msn (the most significant, the default) or lsn \
-                (the least significant)",
+                "Which nibble of an STP value comes first: msn (default) or lsn",
             ),
-            CommandOption::Id => ("id", "The source whose bytes split writes: 0 to 126"),
+            CommandOption::Id => ("id", "split: source to write, 0 to 126"),
             CommandOption::Only => (
                 "only",
-                "Which events show lists: itm, dwt, stp, raw, trigger, time (the timestamps of ITM sources), id=N (of \
-                source N, 1 to 126), port=N (of stimulus port N, 0 to 31) or cmp=N (of comparator N, 0 to 3), or those \
-                of one to eight of these choices with commas between, as in dwt,time",
+                "show: events to list, up to eight of itm, dwt, stp, raw,{n}trigger, time, id=N, port=N and cmp=N, \
+                as in dwt,time",
             ),
             CommandOption::Window => (
                 "window",
-                "From which event to which show lists: two of the choices of --only with a comma between, as in \
-                port=1,port=2",
+                "show: list from one event to another, as in port=1,port=2",
             ),
             CommandOption::Sync => (
                 "sync",
-                "How many frames rebuild or funnel writes for each full synchronisation, which comes before them: \
-                0 (there are none) to 1000000, 64 where it is not given",
+                "Frames for each full synchronisation: 0 (write none) to 1000000, default 64",
             ),
             CommandOption::Half => (
                 "half",
-                "How many half synchronisations rebuild or funnel writes in each gap of a frame: 0 (the default) \
-                to 8",
+                "Half synchronisations in each gap of a frame: 0 (default) to 8",
             ),
             CommandOption::Limit => (
                 "limit",
-                "How many bytes are read at most: 1 to 68719476736, which is the default",
+                "Stop after this many bytes: 1 to 68719476736 (default)",
             ),
-            CommandOption::Items => (
-                "items",
-                "How many items exercise makes: 1 to 1000000, 12000 where it is not given",
-            ),
-            CommandOption::Lose => (
-                "lose",
-                "How many bytes exercise loses at the front: 0 (the default) to 1000000",
-            ),
+            CommandOption::Items => ("items", "Items to make: 1 to 1000000, default 12000"),
+            CommandOption::Lose => ("lose", "Bytes to lose at the front: 0 (default) to 1000000"),
             CommandOption::Recover => (
                 "recover",
-                "Whether show, check, text and vcd go on after a fault, at the next synchronisation: off (the \
-                default), on, or near, which tells what a source may have said until then, too",
+                "Go on after a fault: off (default), on, or near (also list guesses)",
             ),
-            CommandOption::Size => (
-                "size",
-                "How many bytes the trace buffer of ring or unring has: 16 to 16777216",
-            ),
+            CommandOption::Size => ("size", "Bytes of the buffer: 16 to 16777216"),
             CommandOption::Pointer => (
                 "pointer",
-                "Where the trace buffer of unring would have put its next byte: 0 (the default) to 16777215, and \
-                under its size",
+                "unring: where the next byte would go, 0 (default) to 16777215",
             ),
             CommandOption::Full => (
                 "full",
-                "Whether the trace buffer of unring took as many bytes as it has, or more: 0 (no, the default) or \
-                1 (yes)",
+                "unring: whether the whole buffer was written, 0 (default) or 1",
             ),
             CommandOption::Order => (
                 "order",
-                "The sources of a funnel in the order of their turns: 1 to 16 IDs from 1 to 126, with commas between",
+                "funnel: sources in the order of their turns, 1 to 16 IDs, 1 to 126",
             ),
             CommandOption::Hold => (
                 "hold",
-                "How many bytes a source of a funnel gives in its turn at most: 1 to 15, 4 where it is not given",
+                "funnel: bytes that a source gives in a turn at most, 1 to 15, default 4",
             ),
             CommandOption::Depth => (
                 "depth",
-                "How many bytes each queue of a funnel has at most: 1 to 4096, 256 where it is not given",
+                "funnel: bytes in a queue at most, 1 to 4096, default 256",
             ),
-            CommandOption::Port => (
-                "port",
-                "The stimulus port whose bytes text writes: 0 (the default) to 31",
-            ),
+            CommandOption::Port => ("port", "text: stimulus port to write, 0 (default) to 31"),
             CommandOption::Hz => (
                 "hz",
-                "How many ticks of the local timestamps vcd has in a second, so that its times are nanoseconds: 1 to \
-                1000000000000; where it is not given a tick is a nanosecond",
+                "vcd: ticks in a second, 1 to 1000000000000; without it a tick is 1 ns",
             ),
             CommandOption::Kinds => (
                 "kinds",
-                "Whether check counts the items of each kind, too: off (the default) or on",
+                "check: also count items by kind, off (default) or on",
             ),
+        }
+    }
+
+    /// The heading of `--help` under which the option stands.
+    pub(crate) fn heading<'a>(self) -> &'a str {
+        match self {
+            CommandOption::Frames
+            | CommandOption::Packets
+            | CommandOption::Itm
+            | CommandOption::Stp
+            | CommandOption::StpOrder
+            | CommandOption::Limit
+            | CommandOption::Recover => "Input",
+            CommandOption::Id
+            | CommandOption::Only
+            | CommandOption::Window
+            | CommandOption::Port
+            | CommandOption::Hz
+            | CommandOption::Kinds => "Output",
+            CommandOption::Sync
+            | CommandOption::Half
+            | CommandOption::Order
+            | CommandOption::Hold
+            | CommandOption::Depth => "rebuild and funnel",
+            CommandOption::Items | CommandOption::Lose => "exercise",
+            CommandOption::Size | CommandOption::Pointer | CommandOption::Full => "ring and unring",
         }
     }
 

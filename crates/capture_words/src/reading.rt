@@ -27,10 +27,10 @@ pub enum Asked {
 
 /// The words with the program's name in front, which `clap` wants there.
 fn with_name<'a>(alloc: Global, words: &'a [String]) -> Result<Vec<&'a str>, AllocError>
-    ensures { IfOk result (λ v. map (λ s. s.now) v.items ≡ codes "trace" ∷ map string_bytes words.entry.now) }
+    ensures { IfOk result (λ v. map (λ s. s.now) v.items ≡ codes "lipparoy" ∷ map string_bytes words.entry.now) }
 {
     let mut all: Vec<&str> = Vec::new(alloc);
-    all.push("trace")?;
+    all.push("lipparoy")?;
     for word in words {
         all.push(word.as_str())?;
     }

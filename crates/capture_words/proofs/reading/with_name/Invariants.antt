@@ -3,4 +3,4 @@ use Rattle.std.specs.String.{string_bytes}
 use Rattle.capture_words.proofs.reading.with_name.Given as goal
 
 abbrev pub invariant-loop-word : goal.invariant-loop-word
-invariant-loop-word l = map (λ s. s.now) l.all.items ≡ codes "trace" ∷ map string_bytes (take l.word-index l.words)
+invariant-loop-word l = map (λ s. s.now) l.all.items ≡ codes "lipparoy" ∷ map string_bytes (take l.word-index l.words)
