@@ -3,7 +3,6 @@ use Rattle.std.proofs.Common.{◌≡◌, ◌⊎◌, ◌<◌, ◌≤◌, List, �
 use Rattle.std.proofs.Common.{true, false}
 use Rattle.std.proofs.lemmas.List.{take_all}
 use Rattle.std.specs.Prelude.{codes}
-use Rattle.capture_exercise.specs.Summary.{exercise_summary}
 use Rattle.capture_words.specs.declared.job.Task.{Task}
 use Rattle.capture_words.specs.declared.job.Task.TheVariants as tasks
 use Rattle.capture_words.specs.declared.recover.Recover.TheVariants.{Off}
@@ -97,10 +96,6 @@ recovering task on = absurd on
 
 module _ (task : Task) (limit : ℕ) (old new : Streams) (status : Status) (run : HasDone task limit old new status)
   where
-    abbrev made : (e : (items lose : ℕ) × (task ≡ tasks.Exercise items lose)) →
-        HasMade (exercise_summary e.0 e.1) old new status
-    made e = subst (λ (t : Task). HasDone t limit old new status) e.2 run
-
     pub complete : (bytes : List ℕ) → Loses old.left new.left bytes → length bytes ≤ limit_of task limit →
         IsSoundInput task bytes → (status ≡ ReadFault → ⊥) → (status ≡ WriteFault → ⊥) → IsDoneOrNoMemory status
     complete bytes lost within is no_read no_write = by (kind_of task)
@@ -109,7 +104,7 @@ module _ (task : Task) (limit : ℕ) (old new : Streams) (status : Status) (run 
         by (inl reads) =
             completes (meaning_of task) (limit_of task limit) old new bytes lost within is.sound is.not_late status
             (reads.run limit old new status run) no_read no_write
-        by (inr e) = makes (exercise_summary e.0 e.1) old new status (made e) no_write
+        by (inr e) = makes e.text old new status (e.run limit old new status run) no_write
 
     pub goes_on : (bytes : List ℕ) → GoesOn task → Loses old.left new.left bytes → length bytes ≤ limit →
         (status ≡ ReadFault → ⊥) → (status ≡ WriteFault → ⊥) → IsRecovered status
@@ -124,7 +119,7 @@ module _ (task : Task) (limit : ℕ) (old new : Streams) (status : Status) (run 
             recovers (meaning_of task) (limit_of task limit) old new bytes lost
             (subst (λ (l : ℕ). length bytes ≤ l) (sym (is.2 limit)) within) is.0 is.1 status
             (reads.run limit old new status run) no_read no_write
-        by (inr e) = absurd (subst GoesOn e.2 on)
+        by (inr e) = absurd (e.stops on)
 
     -- want of memory is noted
     pub noted : status ≡ NoMemory →
@@ -137,5 +132,5 @@ module _ (task : Task) (limit : ℕ) (old new : Streams) (status : Status) (run 
             (reads.run limit old new status run) in
             said old new r.note r.writes.2 r.noted
         by (inr e) =
-            let r = subst (HasMade (exercise_summary e.0 e.1) old new) none (made e) in
+            let r = subst (HasMade e.text old new) none (e.run limit old new status run) in
             said old new r.note r.makes.1 r.noted

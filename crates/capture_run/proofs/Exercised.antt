@@ -4,7 +4,7 @@ use Rattle.std.proofs.lemmas.List.{take-append-drop, take_all}
 use Rattle.std.proofs.lemmas.List.{length-drop}
 use Rattle.std.specs.declared.option.Option.{Option}
 use Rattle.std.specs.Prelude.{codes}
-use Rattle.std.specs.Io.KnownBytes.{Consumes, IsAtEnd, Keeps}
+use Rattle.std.specs.Io.KnownBytes.{Consumes, IsAtEnd}
 use Rattle.trace_stream.specs.Served.{Ends, HasServed, IsAllRead}
 use Rattle.trace_stream.specs.Written.{GrowsOnly}
 use Rattle.source_events.specs.declared.plan.Plan.{Plan}
@@ -19,6 +19,7 @@ use Rattle.capture_exercise.specs.declared.plans.ExercisePlan.{ExercisePlan}
 use Rattle.trace_stream.specs.Told.{Notes}
 use Rattle.capture_run.specs.Run.{HasMade, Streams}
 use Rattle.capture_run.specs.declared.status.Status.TheVariants.{Done, WriteFault}
+use Rattle.capture_run.proofs.Running.{keeps}
 
 -- what is asked of the serving
 abbrev pub plan_for : ℕ → ExercisePlan
@@ -52,10 +53,6 @@ pub all_of : (rest : List ℕ) (left : Option (List ℕ)) (bytes : List ℕ) →
     bytes ≡ rest
 all_of rest None bytes lost end = absurd lost
 all_of rest (Some more) bytes lost end = sym (lost ∙ ap (λ (l : List ℕ). bytes ++ l) end ∙ append-nil bytes)
-
-keeps : (left : Option (List ℕ)) → Keeps left left
-keeps None = tt
-keeps (Some xs) = refl
 
 module _ (there : List ℕ → Type 0) (items lose limit : ℕ) (left : Option (List ℕ)) (old new : Streams) (rest_left : Option (List ℕ)) (recent : List ℕ) where
   abbrev before : Ends

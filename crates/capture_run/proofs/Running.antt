@@ -11,7 +11,6 @@ use Rattle.trace_stream.specs.declared.outcome.Outcome.{Outcome}
 use Rattle.trace_stream.specs.declared.outcome.Outcome.TheVariants.{AtEnd, FaultFound, OverLimit}
 use Rattle.trace_stream.specs.declared.outcome.Outcome.TheVariants.{ReadFailed, WriteFailed}
 use Rattle.capture_words.specs.declared.job.Task.{Task}
-use Rattle.capture_exercise.specs.Summary.{exercise_summary}
 use Rattle.capture_run.specs.Actions.{HasDone, limit_of, meaning_of}
 use Rattle.capture_run.specs.Notes.{text_of, status_of, is_image, over_text, over_status}
 use Rattle.trace_stream.specs.Told.{HasTold, Noted, Notes, told}
@@ -179,7 +178,7 @@ pub same_task : (t u : Task) (limit : ℕ) (old new : Streams) (status : Status)
 same_task t u limit old new status is run = subst (λ (v : Task). HasDone v limit old new status) (sym is) run
 
 -- with no memory to begin with nothing is read or written, whatever the task
-keeps : (left : Option (List ℕ)) → Keeps left left
+pub keeps : (left : Option (List ℕ)) → Keeps left left
 keeps None = tt
 keeps (Some xs) = refl
 
@@ -219,5 +218,5 @@ done_unopened task limit old noted faults note = by (kind_of task)
     by : Kind task → HasDone task limit old (with_notes old noted faults) NoMemory
     by (inl reads) = reads.done limit old (with_notes old noted faults) NoMemory
         (run_unopened (limit_of task limit) old noted faults note (meaning_of task))
-    by (inr e) = subst (λ (t : Task). HasDone t limit old (with_notes old noted faults) NoMemory) (sym e.2)
-        (made_unopened limit old noted faults note (exercise_summary e.0 e.1))
+    by (inr makes) = makes.done limit old (with_notes old noted faults) NoMemory
+        (made_unopened limit old noted faults note makes.text)

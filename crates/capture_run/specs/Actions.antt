@@ -4,7 +4,7 @@ use Rattle.std.specs.Prelude.{◌≡◌, ℕ, Bool, List, [], ◌++◌, true, fa
 use Rattle.std.specs.Prelude.{Some}
 use Rattle.capture_words.specs.declared.job.Task.{Task}
 use Rattle.capture_words.specs.declared.job.Task.TheVariants.{Show, Split, Check, Rebuild, Exercise, Realign, Ring}
-use Rattle.capture_words.specs.declared.job.Task.TheVariants.{Unring, Text, Funnel, Vcd}
+use Rattle.capture_words.specs.declared.job.Task.TheVariants.{Unring, Text, Funnel, Vcd, Print}
 use Rattle.capture_words.specs.Values.{guesses_of}
 use Rattle.buffer_ring.specs.Image.{pointer, is_full, dropped}
 use Rattle.capture_actions.specs.Port.{port_of}
@@ -45,6 +45,7 @@ use Rattle.trace_stream.specs.Recent.{last_sixteen}
 use Rattle.trace_values.specs.Placed.{placed}
 use Rattle.trace_text.specs.NoteText.{last_line, slipped_line, buffer_line, image_line}
 use Rattle.capture_run.specs.Notes.{fault_text, script_note}
+use Rattle.capture_run.specs.Pages.{page_text}
 use Rattle.capture_run.specs.Rebuilds.{straight, funnelled}
 use Rattle.capture_run.specs.Run.{TaskMeaning, TaskNotes, nothing, task_of, Streams, HasRun, HasMade}
 use Rattle.capture_run.specs.declared.status.Status.{Status}
@@ -94,7 +95,7 @@ rebuild_notes plan = record {
   exact = false;
 }
 
--- `exercise` reads nothing
+-- `exercise`, `help` and `version` read nothing
 abbrev pub reads_nothing : List ℕ → TaskMeaning
 reads_nothing text =
     let action : Meaning = record { faulty = λ bytes. ⊥; text = λ bytes. []; ending = λ bytes. text; due = false } in
@@ -193,6 +194,7 @@ meaning_of (Check plan recover kinds) = checking (guesses_of recover) kinds plan
 meaning_of (Rebuild plan sync half) = rebuilding (straight plan sync half)
 meaning_of (Funnel plan sync half turns) = rebuilding (funnelled plan sync half turns)
 meaning_of (Exercise items lose) = reads_nothing (exercise_summary items lose)
+meaning_of (Print page) = reads_nothing (page_text page)
 meaning_of Realign = task_of realign_meaning nothing realign_notes
 meaning_of (Ring size) = task_of (ring_meaning size) nothing (ring_notes size)
 meaning_of (Unring size at full) =
@@ -204,9 +206,10 @@ abbrev pub limit_of : Task → ℕ → ℕ
 limit_of (Unring size at full) limit = size
 limit_of task limit = limit
 
--- What was read, written and noted, by the status. `exercise` reads nothing.
+-- What was read, written and noted, by the status. `exercise`, `help` and `version` read nothing.
 abbrev pub HasDone : Task → ℕ → Streams → Streams → Status → Type 0
 HasDone (Exercise items lose) limit old new status = HasMade (exercise_summary items lose) old new status
+HasDone (Print page) limit old new status = HasMade (page_text page) old new status
 HasDone task limit old new status = HasRun (meaning_of task) (limit_of task limit) old new status
 
 -- an action that may be served over empty buffers

@@ -2,6 +2,7 @@ pub mod Notes
 pub mod Statuses
 pub mod Actions
 pub mod Run
+pub mod Pages
 pub mod Fronts
 pub mod Rebuilds
 pub mod Recovers

@@ -11,6 +11,7 @@ ghost use Rattle.capture_run.specs.Run.{HasRun, IsCaused, task_of, streams};
 use crate::actions::CommandAction;
 use crate::exercise::run_exercise;
 use crate::notes::{note, note_done, note_fault, note_over};
+use crate::pages::print_page;
 use crate::reading::{run_check, run_reading};
 use crate::status::Status;
 use capture_actions::{ListPlan, PortTextPlan, Realign, Ring, Split, SplitPlan, Unring};
@@ -172,6 +173,7 @@ fn run_task<I: Source, O: Sink, N: Sink>(
             run_action(buffers, opened, size as u64, input, output, notes)
         }
         Task::Exercise { items, lose } => run_exercise(buffers, items, lose, output, notes),
+        Task::Print { page } => print_page(page, output, notes),
     }
 }
 

@@ -1,6 +1,6 @@
 //! All that the program does, as one call over its words and three streams: it lists what all sources of a capture
 //! gave, takes the bytes of one source out of the frames of a trace port, or counts what each source sent. Or it writes
-//! the capture of a script, straight or through a funnel, or tries itself on a capture of its own.
+//! the capture of a script, straight or through a funnel, tries itself on a capture of its own, or tells of itself.
 #![tactic(auto)]
 
 ghost use Rattle.std.specs.Prelude.{◌≡◌, ◌⊎◌, ◌+◌, ◌≤◌, ℕ, List, length, map, codes};
@@ -24,6 +24,7 @@ mod exercise;
 mod jobs;
 pub mod laws;
 mod notes;
+mod pages;
 mod reading;
 mod status;
 

@@ -44,7 +44,7 @@ use Rattle.capture_words.specs.declared.values.ActionName.TheVariants.{Check as 
 use Rattle.capture_words.specs.declared.values.ActionName.TheVariants.{Exercise as ExerciseName, Realign as RealignName}
 use Rattle.capture_words.specs.declared.values.ActionName.TheVariants.{Ring as RingName, Unring as UnringName}
 use Rattle.capture_words.specs.declared.values.ActionName.TheVariants.{Text as TextName, Funnel as FunnelName}
-use Rattle.capture_words.specs.declared.values.ActionName.TheVariants.{Vcd as VcdName}
+use Rattle.capture_words.specs.declared.values.ActionName.TheVariants.{Vcd as VcdName, Print as PrintName}
 use Rattle.capture_words.proofs.Again.{InRange, is_sound_list, is_apart_list}
 use Rattle.capture_words.proofs.IdLists.{ids_is}
 
@@ -299,6 +299,7 @@ of_task FunnelName s task (plans, (half, lose, port), (limit, items, hold, depth
     let sound = of_plan_with s.plan plan.value plans plan.is in
     subst IsSoundTask (same_ok turns.rest)
     (sound, half, of_turns_with s.order s.hold s.depth turns.value order hold depth turns.is)
+of_task (PrintName page) s task are e = subst IsSoundTask (same_ok e) tt
 
 abbrev IsSoundJob : Job → Type 0
 IsSoundJob job = Between 1 (2 ^ 36) job.limit × IsSoundTask job.task

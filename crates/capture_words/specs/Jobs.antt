@@ -13,7 +13,7 @@ use Rattle.capture_words.specs.Settings.{◌>>=◌, settings_in}
 use Rattle.capture_words.specs.Values.{action_in}
 use Rattle.capture_words.specs.declared.job.Task.{Task}
 use Rattle.capture_words.specs.declared.job.Task.TheVariants.{Show, Split, Check, Rebuild, Exercise}
-use Rattle.capture_words.specs.declared.job.Task.TheVariants.{Realign, Ring, Unring, Text, Funnel, Vcd}
+use Rattle.capture_words.specs.declared.job.Task.TheVariants.{Realign, Ring, Unring, Text, Funnel, Vcd, Print}
 use Rattle.capture_words.specs.declared.job.Job.{Job}
 use Rattle.capture_words.specs.declared.settings.Settings.{Settings}
 use Rattle.capture_words.specs.declared.usage.UsageFault.{UsageFault}
@@ -28,7 +28,7 @@ use Rattle.capture_words.specs.declared.values.ActionName.TheVariants.{Check as 
 use Rattle.capture_words.specs.declared.values.ActionName.TheVariants.{Exercise as ExerciseName, Realign as RealignName}
 use Rattle.capture_words.specs.declared.values.ActionName.TheVariants.{Ring as RingName, Unring as UnringName}
 use Rattle.capture_words.specs.declared.values.ActionName.TheVariants.{Text as TextName, Funnel as FunnelName}
-use Rattle.capture_words.specs.declared.values.ActionName.TheVariants.{Vcd as VcdName}
+use Rattle.capture_words.specs.declared.values.ActionName.TheVariants.{Vcd as VcdName, Print as PrintName}
 
 -- the first of these IDs that stands earlier already, among them or before them
 abbrev pub again_after : List ℕ → List ℕ → Option ℕ
@@ -94,6 +94,7 @@ task_with VcdName s =
 task_with FunnelName s =
     plan_with s.plan >>= (λ plan.
     turns_with s.order s.hold s.depth >>= (λ turns. Ok (Funnel plan s.sync s.half turns)))
+task_with (PrintName page) s = Ok (Print page)
 
 -- The first fault of the action's name, of the options' values in the order of the command, and of what the
 -- action needs; and where there is none, the job. An option that the action doesn't use has no effect.
@@ -124,3 +125,4 @@ IsSoundTask (Unring size pointer full) = (16 ≤ size) × (size ≤ 2 ^ 24) × (
 IsSoundTask (Text plan port recover) = IsOfOne plan × (port ≤ 31)
 IsSoundTask (Funnel plan sync half turns) = (is_sound plan ≡ true) × (half ≤ 8) × IsSoundTurns turns
 IsSoundTask (Vcd plan hz recover) = IsOfOne plan × ForSome hz (λ n. 0 < n)
+IsSoundTask (Print page) = Unit {0}

@@ -13,6 +13,7 @@ use Rattle.item_tap.specs.declared.choice.Kind.{Kind}
 use Rattle.item_tap.specs.declared.choice.Kind.TheVariants.{Itm as ItmKind, Dwt as DwtKind, Stp as StpKind}
 use Rattle.item_tap.specs.declared.choice.Kind.TheVariants.{Raw as RawKind, Trigger as TriggerKind}
 use Rattle.decimal_words.specs.Numbers.{number_named, number_after}
+use Rattle.capture_words.specs.declared.page.Page.TheVariants.{Help, Version}
 use Rattle.capture_words.specs.declared.recover.Recover.{Recover}
 use Rattle.capture_words.specs.declared.recover.Recover.TheVariants.{Off, On, Near}
 use Rattle.capture_words.specs.declared.usage.UsageFault.{UsageFault}
@@ -20,7 +21,7 @@ use Rattle.capture_words.specs.declared.usage.UsageFault.TheVariants.{UnknownAct
 use Rattle.capture_words.specs.declared.values.ActionName.{ActionName}
 use Rattle.capture_words.specs.declared.values.ActionName.TheVariants.{Show, Split, Check, Rebuild, Exercise}
 use Rattle.capture_words.specs.declared.values.ActionName.TheVariants.{Realign, Ring, Unring, Text as TextName, Funnel}
-use Rattle.capture_words.specs.declared.values.ActionName.TheVariants.{Vcd}
+use Rattle.capture_words.specs.declared.values.ActionName.TheVariants.{Vcd, Print}
 
 -- the action that a text names
 abbrev pub action_named : Text → Option ActionName
@@ -36,6 +37,8 @@ action_named text =
     else if bytes_eq text (codes "text") then Some TextName
     else if bytes_eq text (codes "funnel") then Some Funnel
     else if bytes_eq text (codes "vcd") then Some Vcd
+    else if bytes_eq text (codes "help") then Some (Print Help)
+    else if bytes_eq text (codes "version") then Some (Print Version)
     else None
 
 -- the order of nibbles that a text names

@@ -9,11 +9,12 @@ use clap::{Arg, ArgAction, Command};
 use std::alloc::{AllocError, Global};
 
 /// What `--help` says below the options.
-const CAPTURE_HELP: &str = "Input is standard input, as in: lipparoy check < CAPTURE";
+const CAPTURE_HELP: &str =
+    "Input is standard input, as in: lipparoy check < CAPTURE{n}`lipparoy help` says what each action does.";
 
 /// What `--help` says of the action.
 const ACTION_HELP: &str =
-    "show, split, check, text, vcd, rebuild, funnel, realign, ring, unring, exercise";
+    "show, split, check, text, vcd, rebuild, funnel, realign, ring, unring, exercise,{n}help or version";
 
 /// The command with this option besides. It takes one value, and is given once at most.
 fn with_option<'a>(

@@ -6,6 +6,7 @@ ghost use Rattle.capture_words.specs.Jobs.{plan_with, split_with, ring_with, unr
 ghost use Rattle.capture_words.specs.Jobs.{turns_with, task_with, job_of};
 
 use crate::ids::{first_again, mapped_twice};
+use crate::page::Page;
 use crate::recover::Recover;
 use crate::settings::{Settings, settings_in};
 use crate::usage::UsageFault;
@@ -107,6 +108,11 @@ pub enum Task {
         half: u8,
         /// How the funnel takes turns.
         turns: Turns,
+    },
+    /// A text of the program's own is written. No input is read.
+    Print {
+        /// Which one.
+        page: Page,
     },
 }
 
@@ -253,6 +259,7 @@ fn task_with(name: ActionName, settings: Settings) -> Result<Task, UsageFault>
             half: settings.half,
             turns: turns_with(settings.order, settings.hold, settings.depth)?,
         }),
+        ActionName::Print(page) => Ok(Task::Print { page }),
     }
 }
 

@@ -9,6 +9,7 @@ mod job;
 pub mod laws;
 mod list;
 mod option;
+mod page;
 mod reading;
 mod recover;
 mod settings;
@@ -17,6 +18,7 @@ mod values;
 
 pub use job::{Job, Task};
 pub use option::CommandOption;
+pub use page::Page;
 pub use reading::{Asked, read_words};
 pub use recover::Recover;
 pub use usage::{LINE_ROOM, UsageFault};

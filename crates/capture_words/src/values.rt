@@ -7,6 +7,7 @@ ghost use Rattle.capture_words.specs.Command.{option_name};
 ghost use Rattle.capture_words.specs.Values.{action_named, order_named, bit_named, switch_named, action_in};
 
 use crate::option::CommandOption;
+use crate::page::Page;
 use crate::usage::UsageFault;
 use clap::ArgMatches;
 use decimal_words::number_named;
@@ -40,6 +41,8 @@ pub enum ActionName {
     Funnel,
     /// `vcd`
     Vcd,
+    /// `help` or `version`
+    Print(Page),
 }
 
 impl ActionName {
@@ -59,6 +62,8 @@ impl ActionName {
             "text" => Some(ActionName::Text),
             "funnel" => Some(ActionName::Funnel),
             "vcd" => Some(ActionName::Vcd),
+            "help" => Some(ActionName::Print(Page::Help)),
+            "version" => Some(ActionName::Print(Page::Version)),
             _ => None,
         }
     }
@@ -125,7 +130,8 @@ pub fn text_of<'a>(matches: &ArgMatches<'a>, option: CommandOption) -> Option<&'
     text_named(matches, option.name())
 }
 
-/// The action: `show`, `split`, `check`, `rebuild`, `exercise`, `realign`, `ring`, `unring`, `text`, `funnel` or `vcd`.
+/// The action: `show`, `split`, `check`, `rebuild`, `exercise`, `realign`, `ring`, `unring`, `text`, `funnel`, `vcd`,
+/// `help` or `version`.
 pub fn action_in(matches: &ArgMatches<'_>) -> Result<ActionName, UsageFault>
     ensures { result ≡ action_in (rows_of (found_of matches.now)) }
 {
