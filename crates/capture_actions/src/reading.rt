@@ -3,7 +3,7 @@
 ghost use Rattle.std.specs.Prelude.{◌≡◌, ◌+◌, ◌<◌, ◌≤◌, ◌++◌, [], ℕ, List, length, is_none, take, true, false};
 ghost use Rattle.capture_actions.specs.Names.{Placed, placed_from, is_sound, is_live, GREATEST_CAPTURE};
 ghost use Rattle.source_merge.specs.Engine as engine;
-ghost use Rattle.source_merge.specs.declared.engine.TheConstants.{GREATEST_OFFSET};
+ghost use Rattle.recovery_engine.specs.declared.engine.TheConstants.{GREATEST_OFFSET};
 
 use source_events::{Plan, Stop};
 use source_merge::{Engine, Receiver};

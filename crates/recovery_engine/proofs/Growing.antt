@@ -138,7 +138,7 @@ with_byte Aligned u at byte = framed Aligned u at byte
 with_byte Hunt u at byte = framed Hunt u at byte
 with_byte Bare u at byte = (map Run (runs_of (bare_cell (byte_at at byte) ∷ [])), bare_parts u (byte_at at byte))
 
-with_bytes : (mode : FramesMode) (u : List Placed) (at : ℕ) (bytes : List ℕ) → (more : List Part) ×
+pub with_bytes : (mode : FramesMode) (u : List Placed) (at : ℕ) (bytes : List ℕ) → (more : List Part) ×
     (parts_in (recovered mode (u ++ placed_from at bytes)) ≡ parts_in (recovered mode u) ++ more)
 with_bytes mode u at [] = (
   [],

@@ -306,6 +306,14 @@ impl Recovery {
         self.next
     }
 
+    /// What it reads by.
+    #[inline(always)]
+    pub fn plan(&self) -> &Plan
+        ensures { result.now ≡ plan_of self.now }
+    {
+        &self.plan
+    }
+
     /// What kind a source is of, if it is mapped.
     pub fn kind_of(&self, id: SourceId) -> Option<SourceKind>
         ensures { result ≡ plans.kind_of (plan_of self.now) id }

@@ -3,7 +3,8 @@ use Rattle.std.proofs.Common.{◌≡◌, ℕ, zero, suc, ◌+◌, ◌-◌, ◌�
 use Rattle.std.specs.Prelude.{◌==◌}
 use Rattle.std.proofs.lemmas.List.{take_all, length-drop, length-take-le}
 use Rattle.std.proofs.lemmas.Bool.Decides.{nat_tests}
-use Rattle.source_merge.specs.Names.{Placed, byte_at, placed_from, EachByte, FedAs}
+use Rattle.trace_values.specs.Placed.{Placed, byte_at, placed_from}
+use Rattle.deformatter.specs.Block.{EachByte, FedAs}
 use Rattle.trace_values.proofs.Placing.{placed_from_append}
 use Rattle.source_merge.specs.Answering.{goes_on}
 use Rattle.source_merge.specs.declared.flow.Flow.{Flow}

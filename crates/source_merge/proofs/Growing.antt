@@ -1,91 +1,122 @@
--- What events with the last of some bytes are for the report of the capture.
-use Rattle.std.proofs.Common.{◌≡◌, ℕ, ◌*◌, ◌^◌, ◌+◌, List, [], ◌∷◌, ◌++◌, ◌<◌, ◌≤◌, length, sym, ◌∙◌, ap, subst, append_assoc, append-nil, arith, length-append, None, true}
-use Rattle.source_merge.specs.Names.{Placed, byte_at, placed_from, offsets_of, BytesRise, end_at, EachByte, FedAs, Event, Packet, Plan}
-use Rattle.trace_values.proofs.Placing.{length-placed_from, placed_from_push}
+-- How the report up to the first fault grows with more bytes.
+use Rattle.std.proofs.Common.{◌≡◌, ◌∙◌, ℕ, ◌+◌, List, [], ◌∷◌, ◌++◌, length, sym, ap, refl}
+use Rattle.std.proofs.Common.{append_assoc, append-nil, Option, None, Some, true}
+use Rattle.std.proofs.lemmas.List.{append_cancel_left}
+use Rattle.trace_values.specs.declared.fault.Reason.{Reason}
+use Rattle.trace_values.specs.Placed.{Place, Placed, byte_at, placed_from}
+use Rattle.deformatter.specs.Block.{EachByte}
+use Rattle.deformatter.specs.Rising.{BytesRise}
+use Rattle.source_events.specs.declared.event.Event.{Event}
+use Rattle.source_events.specs.declared.packet.Packet.{Packet}
+use Rattle.source_events.specs.declared.plan.Plan.{Plan}
+use Rattle.source_events.specs.Plan.{is_sound}
+use Rattle.stretch_readings.specs.declared.heard.Heard.{Heard}
+use Rattle.recovery_report.specs.Port.{recovered}
+use Rattle.recovery_report.specs.Report.{Part, parts_in, report, report_from}
+use Rattle.recovery_report.proofs.PartLaws.{report_append}
+use Rattle.recovery_engine.proofs.Growing.{with_bytes}
+use Rattle.recovery_engine.proofs.Rising.{rise_block}
+use Rattle.recovery_laws.specs.Strict.{IsStrictBefore, first_fault, upto}
+use Rattle.recovery_laws.proofs.Captures as captures
+use Rattle.recovery_laws.proofs.Uptos.{after_none, after_some}
 use Rattle.source_merge.specs.Answering.{Answers, fault_of, report_of}
-use Rattle.source_merge.specs.declared.counts.Counters.{Counters}
-use Rattle.source_merge.specs.declared.engine.Engine.{Engine}
-use Rattle.source_merge.specs.declared.flow.Flow.{Flow}
 use Rattle.source_merge.specs.declared.flow.Flow.TheVariants.{Going}
-use Rattle.source_merge.specs.declared.slot.Slot.{Slot}
-use Rattle.source_merge.specs.Counting.{size_of}
-use Rattle.source_merge.specs.Stepping.{IsReady}
-use Rattle.source_merge.specs.Engine.{Stands, is_live}
-use Rattle.source_merge.specs.Front.{GivesLast, Reads, ReadsTo}
-use Rattle.source_merge.proofs.Going.{rise_to, rise_block, end_block}
-use Rattle.source_merge.proofs.Refilled.{ready_as}
-use Rattle.source_merge.proofs.Standing.{none_there}
 
--- after bytes of which none gives or ends anything
-quiet_report : (plan : Plan) (u : List Placed) (at : ℕ) (front : List ℕ) → EachByte (Answers plan [] Going) u at front →
-    report_of plan (u ++ placed_from at front) ≡ report_of plan u
-quiet_report plan u at [] q = ap (report_of plan) (append-nil u)
-quiet_report plan u at (b ∷ front) q =
-    ap (report_of plan) (sym (append_assoc u (byte_at at b ∷ []) (placed_from (at + 1) front)))
-    ∙ quiet_report plan (u ++ byte_at at b ∷ []) (at + 1) front q.1 ∙ q.0.events ∙ append-nil (report_of plan u)
+abbrev Heards : Type 0
+Heards = List (Event (Heard Packet))
 
-quiet_fault : (plan : Plan) (u : List Placed) (at : ℕ) (front : List ℕ) → EachByte (Answers plan [] Going) u at front →
-    fault_of plan u ≡ None → fault_of plan (u ++ placed_from at front) ≡ None
-quiet_fault plan u at [] q none = ap (fault_of plan) (append-nil u) ∙ none
-quiet_fault plan u at (b ∷ front) q none =
-    ap (fault_of plan) (sym (append_assoc u (byte_at at b ∷ []) (placed_from (at + 1) front)))
-    ∙ quiet_fault plan (u ++ byte_at at b ∷ []) (at + 1) front q.1 q.0.fault
+abbrev Full : Type 0
+Full = Place × (Reason × Option ℕ)
 
-fed_reads : (plan : Plan) (u : List Placed) (at : ℕ) (bytes : List ℕ) (given : List (Event Packet)) (flow : Flow) →
-    fault_of plan u ≡ None → FedAs (Answers plan [] Going) (Answers plan given flow) u at bytes → Reads plan u at bytes given flow
-fed_reads plan u at bytes given flow none fed =
-    let all : u ++ placed_from at bytes ≡ (u ++ placed_from at fed.front) ++ byte_at (at + length fed.front) fed.last ∷ [] =
-    ap (λ (l : List ℕ). u ++ placed_from at l) fed.parts
-    ∙ ap (λ (l : List Placed). u ++ l) (placed_from_push at fed.front fed.last)
-    ∙ sym (append_assoc u (placed_from at fed.front) (byte_at (at + length fed.front) fed.last ∷ [])) in
-    record {
-      grew =
-          ap (report_of plan) all ∙ fed.ends.events
-          ∙ ap (λ (l : List (Event Packet)). l ++ given) (quiet_report plan u at fed.front fed.quiet);
-      fault = ap (fault_of plan) all ∙ fed.ends.fault;
-      certain = λ e. record {
-        front = fed.front;
-        last = fed.last;
-        parts = fed.parts;
-        sound = quiet_fault plan u at fed.front fed.quiet none;
-      };
-    }
+abbrev parts_of : Plan → List Placed → List Part
+parts_of plan u = parts_in (recovered plan.frames u)
 
--- an engine that is live stands for bytes whose report has no fault
-pub no_fault : (engine : Engine) → is_live engine ≡ true → (u : List Placed) → Stands engine u → fault_of engine.plan u ≡ None
-no_fault engine live u h = none_there (fault_of engine.plan u) (sym h.live ∙ live)
+-- what is added to nothing more is nothing
+none_more : (xs ys zs : List Part) → (xs ++ ys) ++ zs ≡ xs → ys ≡ []
+none_more xs ys zs e =
+    first ys zs (append_cancel_left xs (ys ++ zs) [] (sym (append_assoc xs ys zs) ∙ e ∙ sym (append-nil xs))) where
+      first : (ys zs : List Part) → ys ++ zs ≡ [] → ys ≡ []
+      first [] zs h = refl
+      first (y ∷ ys) zs h = cc
 
-pub last_reads : (engine : Engine) (at : ℕ) (bytes : List ℕ) (given : List (Event Packet)) (flow : Flow) →
-    is_live engine ≡ true → GivesLast engine at bytes flow given → ReadsTo engine at bytes flow given
-last_reads engine at bytes given flow live fed u h =
-    fed_reads engine.plan u at bytes given flow (no_fault engine live u h) (fed u h)
+-- the recovering report of more bytes
+pub grown : (plan : Plan) (u : List Placed) (at : ℕ) (xs : List ℕ) → (es : Heards) ×
+    (report plan (u ++ placed_from at xs) ≡ report plan u ++ es)
+grown plan u at xs =
+    let m = with_bytes plan.frames u at xs in (
+      report_from plan (parts_of plan u) m.0,
+      ap (report_from plan []) m.1 ∙ report_append plan (parts_of plan u) m.0 [],
+    )
 
--- what its report is over goes on with bytes that come after
-pub record Longer (engine : Engine) (u : List Placed) (at : ℕ) (w : List ℕ) : Type 0 where
-  pub rise : BytesRise 0 at u
-  pub rises : BytesRise 0 (at + length w) (u ++ placed_from at w)
-  pub rising : BytesRise 0 (end_at 0 (offsets_of (u ++ placed_from at w))) (u ++ placed_from at w)
-  pub next : at + length w ≡ end_at 0 (offsets_of (u ++ placed_from at w))
-  pub count : engine.count + length w ≡ length (u ++ placed_from at w)
+module _ (plan : Plan) (sound : is_sound plan ≡ true) where
+  pub strict : (u : List Placed) (k : ℕ) → BytesRise 0 k u → IsStrictBefore plan u
+  strict u k r = captures.before plan sound 0 k u r
 
-pub longer : (engine : Engine) (u : List Placed) → Stands engine u → (at : ℕ) → engine.next ≤ at → (w : List ℕ) → 0 < length w →
-    Longer engine u at w
-longer engine u h at after w some =
-    let rise = rise_to u engine.next at (subst (λ (k : ℕ). BytesRise 0 k u) (sym h.next) h.rising) after in
-    let end = end_block w u at some in record {
-      rise = rise;
-      rises = rise_block u at w rise;
-      rising = subst (λ (k : ℕ). BytesRise 0 k (u ++ placed_from at w)) (sym end) (rise_block u at w rise);
-      next = sym end;
-      count = (let a = h.count in let b = length-append u (placed_from at w) in let d = length-placed_from at w in omega arith);
-    }
+  -- after bytes without a fault the report grows by what comes up to the first one
+  pub grows : (u v : List Placed) (m n : ℕ) (es : Heards) → BytesRise 0 m u → BytesRise 0 n v →
+      report plan v ≡ report plan u ++ es → fault_of plan u ≡ None →
+      (report_of plan v ≡ report_of plan u ++ upto es) × (fault_of plan v ≡ first_fault es)
+  grows u v m n es r s e none =
+      let old = strict u m r in
+      let new = strict v n s in
+      let more = after_none (report plan u) es (sym old.fault ∙ none) in (
+        new.events ∙ ap upto e ∙ more.0 ∙ ap (λ (l : List (Event Packet)). l ++ upto es) (sym old.events),
+        new.fault ∙ ap first_fault e ∙ more.1,
+      )
 
--- while it is live it may take a frame
-pub frame_ready : (engine : Engine) (given : List Slot) (counters : Counters) (more : ℕ) → engine.live ≡ true →
-    given ≡ engine.slots.items → size_of counters ≤ size_of engine.counters + more → more ≤ 2 ^ 40 → IsReady given counters
-frame_ready engine given counters more on value size few =
-    let b = engine.within in
-    let d = engine.limit in record {
-      slots_are = ready_as engine.slots.items given value (30 * engine.count) (2 ^ 58) (omega arith) (engine.ready on);
-      size = (let a = engine.size on in omega (arith, a, b, d, size, few));
-    }
+  -- a fault stays, and nothing comes after it
+  pub stays : (u : List Placed) (at : ℕ) (xs : List ℕ) (f : Full) → BytesRise 0 at u → fault_of plan u ≡ Some f →
+      (report_of plan (u ++ placed_from at xs) ≡ report_of plan u) × (fault_of plan (u ++ placed_from at xs) ≡ Some f)
+  stays u at xs f r e =
+      let g = grown plan u at xs in
+      let old = strict u at r in
+      let new = strict (u ++ placed_from at xs) (at + length xs) (rise_block u at xs r) in
+      let more = after_some (report plan u) g.0 f (sym old.fault ∙ e) in (
+        new.events ∙ ap upto g.1 ∙ more.0 ∙ sym old.events,
+        new.fault ∙ ap first_fault g.1 ∙ more.1,
+      )
+
+  -- bytes with which no part of the capture is added
+  same_parts : (u v : List Placed) (m n : ℕ) → BytesRise 0 m u → BytesRise 0 n v → parts_of plan v ≡ parts_of plan u →
+      (report_of plan v ≡ report_of plan u) × (fault_of plan v ≡ fault_of plan u)
+  same_parts u v m n r s e =
+      let k : report plan v ≡ report plan u = ap (report_from plan []) e in
+      let old = strict u m r in
+      let new = strict v n s in
+      (new.events ∙ ap upto k ∙ sym old.events, new.fault ∙ ap first_fault k ∙ sym old.fault)
+
+  pub quiet_fault : (u : List Placed) (at : ℕ) (xs : List ℕ) → BytesRise 0 at u →
+      parts_of plan (u ++ placed_from at xs) ≡ parts_of plan u → fault_of plan u ≡ None →
+      fault_of plan (u ++ placed_from at xs) ≡ None
+  quiet_fault u at xs r e none =
+      (same_parts u (u ++ placed_from at xs) at (at + length xs) r (rise_block u at xs r) e).1 ∙ none
+
+  pub quiet_report : (u : List Placed) (at : ℕ) (xs : List ℕ) → BytesRise 0 at u →
+      parts_of plan (u ++ placed_from at xs) ≡ parts_of plan u →
+      report_of plan (u ++ placed_from at xs) ≡ report_of plan u
+  quiet_report u at xs r e =
+      (same_parts u (u ++ placed_from at xs) at (at + length xs) r (rise_block u at xs r) e).0
+
+  pub quiet_bytes : (xs : List ℕ) (u : List Placed) (at : ℕ) → BytesRise 0 at u →
+      parts_of plan (u ++ placed_from at xs) ≡ parts_of plan u → fault_of plan u ≡ None →
+      EachByte (Answers plan [] Going) u at xs
+  quiet_bytes [] u at r e none = tt
+  quiet_bytes (b ∷ xs) u at r e none =
+      let v : List Placed = u ++ byte_at at b ∷ [] in
+      let one = with_bytes plan.frames u at (b ∷ []) in
+      let rest = with_bytes plan.frames v (at + 1) xs in
+      let all : parts_of plan (v ++ placed_from (at + 1) xs) ≡ parts_of plan u =
+      ap (parts_of plan) (append_assoc u (byte_at at b ∷ []) (placed_from (at + 1) xs)) ∙ e in
+      let both : (parts_of plan u ++ one.0) ++ rest.0 ≡ parts_of plan u =
+      ap (λ (l : List Part). l ++ rest.0) (sym one.1) ∙ sym rest.1 ∙ all in
+      let first : parts_of plan v ≡ parts_of plan u =
+      one.1 ∙ ap (λ (l : List Part). parts_of plan u ++ l) (none_more (parts_of plan u) one.0 rest.0 both)
+      ∙ append-nil (parts_of plan u) in
+      let s : BytesRise 0 (at + 1) v = rise_block u at (b ∷ []) r in
+      let same = same_parts u v at (at + 1) r s first in (
+        record {
+          events = same.0 ∙ sym (append-nil (report_of plan u));
+          fault = same.1 ∙ none;
+        },
+        quiet_bytes xs v (at + 1) s (all ∙ sym first) (same.1 ∙ none),
+      )

@@ -1,28 +1,6 @@
-pub mod Givings
-pub mod Filling
-pub mod ByParts
-pub mod RunSteps
-pub mod Early
-pub mod Slots
-pub mod Taking
-pub mod Framing
-pub mod FrameCounting
-pub mod FrameTaking
-pub mod Steps
-pub mod Standing
-pub mod Going
-pub mod Refilled
-pub mod Feds
-pub mod Growing
-pub mod Attributed
-pub mod FrameCounts
-pub mod Ending
-pub mod Mapping
-pub mod BareBytes
-pub mod BareCounts
-pub mod BareLists
-pub mod PieceStops
-pub mod BareGrown
-pub mod PieceGoing
-pub mod Packets
-pub mod FedRuns
+mod Growing
+mod BareStops
+mod Taking
+mod Counted
+mod Feds
+mod Spent

@@ -1,7 +1,14 @@
 -- What an engine answers to a byte, by the report.
 use Rattle.std.specs.Prelude.{◌≡◌, ℕ, List, [], ◌∷◌, ◌++◌, Bool, true, false, Option, None, Some}
-use Rattle.source_merge.specs.Names.{Reason, Place, Placed, byte_at, PortReading, port_reading, Event, Packet, Plan}
-use Rattle.source_merge.specs.Names.{Stop, sources_by, report, stop_in, stop_of}
+use Rattle.trace_values.specs.declared.fault.Reason.{Reason}
+use Rattle.trace_values.specs.Placed.{Place, Placed, byte_at}
+use Rattle.deformatter.specs.PortReading.{PortReading, port_reading}
+use Rattle.source_events.specs.Plan.{sources_by}
+use Rattle.source_events.specs.Report.{report, stop_in, stop_of}
+use Rattle.source_events.specs.declared.event.Event.{Event}
+use Rattle.source_events.specs.declared.event.Stop.{Stop}
+use Rattle.source_events.specs.declared.packet.Packet.{Packet}
+use Rattle.source_events.specs.declared.plan.Plan.{Plan}
 use Rattle.source_merge.specs.declared.flow.Flow.{Flow}
 use Rattle.source_merge.specs.declared.flow.Flow.TheVariants.{Going, Stopped}
 

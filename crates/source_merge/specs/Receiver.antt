@@ -1,9 +1,12 @@
 -- What receives events, by their parts, and a list of events that takes more of them.
 use Rattle.std.specs.Prelude.{◌≡◌, ℕ, ◌-◌, ◌++◌, List, Some}
 use Rattle.arrayvec.specs.ArrayVec.{ArrayVec, array_vec_len}
-use Rattle.source_merge.specs.Names.{Event, Raw, Trigger, Packet, AllFit, PacketFits}
+use Rattle.source_events.specs.Fitting.{AllFit, PacketFits}
+use Rattle.source_events.specs.declared.event.Event.{Event}
+use Rattle.source_events.specs.declared.event.What.TheVariants.{Raw, Trigger}
+use Rattle.source_events.specs.declared.packet.Packet.{Packet}
 use Rattle.source_events.specs.declared.event.What.TheVariants.{Packet as Said}
-use Rattle.source_merge.specs.declared.slot.TheConstants.{EVENTS}
+use Rattle.source_merge.specs.declared.receiver.TheConstants.{EVENTS}
 
 -- a packet of this source, which ends in this half of the byte here; and bytes of it that are not read, which end here
 abbrev pub packet_event : ℕ → ℕ → ℕ → Packet → Event Packet

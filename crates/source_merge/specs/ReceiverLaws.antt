@@ -2,7 +2,9 @@
 use Rattle.std.proofs.Common.{◌∙◌, ◌++◌, [], List, sym, ap, append_assoc, append-nil}
 use Rattle.std.proofs.lemmas.List.Elements.{All-append, All-nil}
 use Rattle.arrayvec.specs.ArrayVec.{ArrayVec}
-use Rattle.source_merge.specs.Names.{Event, Packet, EventFits, PacketFits}
+use Rattle.source_events.specs.Fitting.{EventFits, PacketFits}
+use Rattle.source_events.specs.declared.event.Event.{Event}
+use Rattle.source_events.specs.declared.packet.Packet.{Packet}
 use Rattle.source_merge.specs.Receiver.{list_gets}
 use Rattle.source_merge.specs.Giving.{AddsUp}
 

@@ -1,19 +1,12 @@
-//! All sources of a capture in one report, as its bytes come.
+//! All sources of a capture in one report, up to its first fault, as its bytes come.
 #![tactic(auto)]
 
-mod counts;
 mod engine;
 mod flow;
-mod frame;
-mod mapped;
+mod hearing;
 mod receiver;
-mod router;
-mod slot;
-mod split;
-mod step;
-mod tails;
+mod up_to;
 
-pub use engine::{Engine, GREATEST_OFFSET};
+pub use engine::Engine;
 pub use flow::{Fed, Flow};
-pub use receiver::Receiver;
-pub use slot::{EVENTS, Events};
+pub use receiver::{EVENTS, Events, Receiver};

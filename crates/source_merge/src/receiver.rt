@@ -3,7 +3,10 @@
 ghost use Rattle.std.specs.Prelude.{◌≡◌, ◌↔◌, ◌+◌, ◌<◌, ◌≤◌, ◌∷◌, [], ℕ, List, Some, length, IsTrue, ⊤};
 ghost use Rattle.std.specs.Prelude.{true};
 ghost use Rattle.std.specs.Option.{is_some};
-ghost use Rattle.source_merge.specs.Names.{Event, Packet, SourceKind, EventFits, PacketFits};
+ghost use Rattle.source_events.specs.Fitting.{EventFits, PacketFits};
+ghost use Rattle.source_events.specs.declared.event.Event.{Event};
+ghost use Rattle.source_events.specs.declared.packet.Packet.{Packet};
+ghost use Rattle.source_events.specs.declared.plan.SourceKind.{SourceKind};
 ghost use Rattle.source_events.specs.declared.plan.SourceKind.TheVariants.{Itm as ItmKind, Stp as StpKind};
 ghost use Rattle.source_events.specs.declared.packet.Packet.TheVariants.{Itm, Stp};
 ghost use Rattle.itm_grammar.specs.Proper.{IsProper};
@@ -12,11 +15,31 @@ ghost use Rattle.stp_grammar.specs.declared.item.StpItem.{StpItem};
 ghost use Rattle.source_merge.specs.Giving.{AddsUp};
 ghost use Rattle.source_merge.specs.Receiver.{packet_event, raw_event, trigger_event};
 
-use crate::slot::{EVENTS, Events, event_at};
+use arrayvec::ArrayVec;
 use itm_grammar::packet::ItmPacket;
 use source_events::{Event, Packet, RunBytes, SourceKind, What};
 use stp_grammar::said::Said;
 use trace_values::SourceId;
+
+/// How many events a list of them has room for. One byte of a capture ends at most one frame, of 15 cells, with at most
+/// two events for each.
+pub const EVENTS: usize = 32;
+
+/// The events that one call gives, in order.
+pub type Events = ArrayVec<Event<Packet>, EVENTS>;
+
+/// What a source gives at this half of the byte at this offset.
+#[inline(always)]
+fn event_at(source: SourceId, at: u64, half: u8, what: What<Packet>) -> Event<Packet>
+    ensures { result ≡ record { at = at; half = half; source = Some source; what = what } }
+{
+    Event {
+        at,
+        half,
+        source: Some(source),
+        what,
+    }
+}
 
 /// What takes the events of a report, one after the other.
 pub trait Receiver {

@@ -1,6 +1,12 @@
 use Rattle.std.proofs.Common.{◌≡◌, ℕ, ◌+◌, ◌-◌, ◌≤◌, List, [], ◌++◌, length, take, drop, refl, sym, ◌∙◌, ap, subst, arith, true, Option, Some, None, rules}
 use Rattle.std.proofs.lemmas.List.{length-take-le, length-drop}
-use Rattle.source_merge.specs.Names.{Placed, placed_from, EachByte, FedAs, Event, Packet, Plan, Stop, AllFit, PacketFits}
+use Rattle.trace_values.specs.Placed.{Placed, placed_from}
+use Rattle.deformatter.specs.Block.{EachByte, FedAs}
+use Rattle.source_events.specs.Fitting.{AllFit, PacketFits}
+use Rattle.source_events.specs.declared.event.Event.{Event}
+use Rattle.source_events.specs.declared.event.Stop.{Stop}
+use Rattle.source_events.specs.declared.packet.Packet.{Packet}
+use Rattle.source_events.specs.declared.plan.Plan.{Plan}
 use Rattle.deformatter.proofs.Blocks.{whole_fed}
 use Rattle.arrayvec.specs.ArrayVec.{array_vec_len}
 use Rattle.source_merge.specs.Answering.{Answers, flow_to, goes_on}
@@ -39,64 +45,64 @@ none_kept (Some stop) h = search rules
 
 pub returns-then-not-is_empty-clause-takes : goal.returns-then-not-is_empty-clause-takes
 returns-then-not-is_empty-clause-takes c =
-    let one = c.take_framed-bytes.ensures.takes in
+    let one = c.take_last-bytes.ensures.takes in
     let i = c.loop-bytes.invariant in
     record {
       same = one.same ∙ i.same;
       bytes = (let a = one.bytes in let b = i.within in let d = length-drop c.loop-bytes.bytes c.args.piece.now in omega (arith, a, b, d), omega arith);
       next = (let a = one.next in omega arith);
       live = one.live ∙ ap goes_on (sym c.flow_of.ensures);
-      list = list c.args.self.now c.loop-bytes.self c.take_framed-bytes.new.self c.args.at c.loop-bytes.bytes c.args.piece.now (fed_by c.take_framed-bytes.result c.take_framed-bytes.new.stop) c.take_framed-bytes.ensures.fed.0
-          i.within i.same i.list i.quiet one c.take_framed-bytes.ensures.fed.2;
+      list = list c.args.self.now c.loop-bytes.self c.take_last-bytes.new.self c.args.at c.loop-bytes.bytes c.args.piece.now (fed_by c.take_last-bytes.result c.take_last-bytes.new.stop) c.take_last-bytes.ensures.fed.0
+          i.within i.same i.list i.quiet one c.take_last-bytes.ensures.fed.2;
     }
 
 pub returns-then-not-is_empty-clause-fits : goal.returns-then-not-is_empty-clause-fits
 returns-then-not-is_empty-clause-fits c =
-    let t = c.take_framed-bytes.ensures.fed in
+    let t = c.take_last-bytes.ensures.fed in
     subst (λ (l : List (Event Packet)). AllFit PacketFits l)
     (sym (t.1.0 ∙ ap (λ (l : List (Event Packet)). l ++ t.0) c.loop-bytes.invariant.empty)) t.1.1
 
 pub returns-then-not-is_empty-clause-fed : goal.returns-then-not-is_empty-clause-fed
 returns-then-not-is_empty-clause-fed c =
     let i = c.loop-bytes.invariant in
-    let t = c.take_framed-bytes.ensures.fed in
-    subst (λ (f : Flow). GivesLast c.args.self.now c.args.at (take (c.loop-bytes.bytes + c.take_framed-bytes.result) c.args.piece.now) f c.take_framed-bytes.new.out.items)
+    let t = c.take_last-bytes.ensures.fed in
+    subst (λ (f : Flow). GivesLast c.args.self.now c.args.at (take (c.loop-bytes.bytes + c.take_last-bytes.result) c.args.piece.now) f c.take_last-bytes.new.out.items)
     (sym c.flow_of.ensures)
-    (subst (λ (l : List (Event Packet)). GivesLast c.args.self.now c.args.at (take (c.loop-bytes.bytes + c.take_framed-bytes.result) c.args.piece.now) (flow_to c.take_framed-bytes.new.stop) l)
+    (subst (λ (l : List (Event Packet)). GivesLast c.args.self.now c.args.at (take (c.loop-bytes.bytes + c.take_last-bytes.result) c.args.piece.now) (flow_to c.take_last-bytes.new.stop) l)
     (sym (t.1.0 ∙ ap (λ (l : List (Event Packet)). l ++ t.0) i.empty))
-    (fed c.args.self.now c.loop-bytes.self c.take_framed-bytes.new.self c.args.at c.loop-bytes.bytes c.args.piece.now (fed_by c.take_framed-bytes.result c.take_framed-bytes.new.stop) t.0
-    i.within i.same i.list i.quiet c.take_framed-bytes.ensures.takes t.2))
+    (fed c.args.self.now c.loop-bytes.self c.take_last-bytes.new.self c.args.at c.loop-bytes.bytes c.args.piece.now (fed_by c.take_last-bytes.result c.take_last-bytes.new.stop) t.0
+    i.within i.same i.list i.quiet c.take_last-bytes.ensures.takes t.2))
 
 pub loop-bytes-preserved : goal.loop-bytes-preserved
 loop-bytes-preserved c =
     let i = c.loop-bytes.invariant in
     let n = c.loop-bytes.bytes in
     let piece = c.args.piece.now in
-    let one = c.take_framed-bytes.ensures.takes in
-    let t = c.take_framed-bytes.ensures.fed in
-    let m = c.take_framed-bytes.result in
-    let quiet = Answers c.args.self.now.plan [] Going in
-    let empty = none_in c.take_framed-bytes.new.out.items (array_vec_len c.take_framed-bytes.new.out) refl (sym c.is_empty.ensures ∙ c.if-not-is_empty.false) in
+    let one = c.take_last-bytes.ensures.takes in
+    let t = c.take_last-bytes.ensures.fed in
+    let m = c.take_last-bytes.result in
+    let quiet = Answers (plan_of c.args.self.now) [] Going in
+    let empty = none_in c.take_last-bytes.new.out.items (array_vec_len c.take_last-bytes.new.out) refl (sym c.is_empty.ensures ∙ c.if-not-is_empty.false) in
     let none : t.0 ≡ [] = sym (t.1.0 ∙ ap (λ (l : List (Event Packet)). l ++ t.0) i.empty) ∙ empty in
-    let going = going_on (flow_to c.take_framed-bytes.new.stop) (sym one.live ∙ c.if-not-self.false) in
+    let going = going_on (flow_to c.take_last-bytes.new.stop) (sym one.live ∙ c.if-not-self.false) in
     let rest = length-drop n piece in
     let tail = tail_of n piece in
     let left = ap length tail in
     record {
       within = (let a = one.bytes.1 in let b = i.within in omega arith);
       live = c.if-not-self.false;
-      sound = none_kept c.take_framed-bytes.new.stop (sym one.live ∙ c.if-not-self.false);
+      sound = none_kept c.take_last-bytes.new.stop (sym one.live ∙ c.if-not-self.false);
       empty = empty;
       same = one.same ∙ i.same;
       next = (let a = one.next in omega arith);
       next_is = λ k. (let a = one.next in omega arith);
-      list = list c.args.self.now c.loop-bytes.self c.take_framed-bytes.new.self c.args.at n piece (fed_by c.take_framed-bytes.result c.take_framed-bytes.new.stop) t.0
+      list = list c.args.self.now c.loop-bytes.self c.take_last-bytes.new.self c.args.at n piece (fed_by c.take_last-bytes.result c.take_last-bytes.new.stop) t.0
           i.within i.same i.list i.quiet one t.2;
       quiet = λ u h.
           fed_each quiet (take (n + m) piece) u c.args.at
-          (subst (λ (es : List (Event Packet)). FedAs quiet (Answers c.args.self.now.plan es Going) u c.args.at (take (n + m) piece)) none
-          (subst (λ (f : Flow). FedAs quiet (Answers c.args.self.now.plan t.0 f) u c.args.at (take (n + m) piece)) going
-          (fed c.args.self.now c.loop-bytes.self c.take_framed-bytes.new.self c.args.at n piece (fed_by c.take_framed-bytes.result c.take_framed-bytes.new.stop) t.0
+          (subst (λ (es : List (Event Packet)). FedAs quiet (Answers (plan_of c.args.self.now) es Going) u c.args.at (take (n + m) piece)) none
+          (subst (λ (f : Flow). FedAs quiet (Answers (plan_of c.args.self.now) t.0 f) u c.args.at (take (n + m) piece)) going
+          (fed c.args.self.now c.loop-bytes.self c.take_last-bytes.new.self c.args.at n piece (fed_by c.take_last-bytes.result c.take_last-bytes.new.stop) t.0
           i.within i.same i.list i.quiet one t.2 u h)));
     }
 
@@ -120,6 +126,6 @@ returns-clause-fed c = λ u h.
     let some = c.requires.some in
     let end = c.loop-bytes-test.false in
     let i = c.loop-bytes.invariant in
-    let quiet = Answers c.args.self.now.plan [] Going in
-    subst (λ (out : List (Event Packet)). FedAs quiet (Answers c.args.self.now.plan out Going) u c.args.at (take n piece)) (sym i.empty)
+    let quiet = Answers (plan_of c.args.self.now) [] Going in
+    subst (λ (out : List (Event Packet)). FedAs quiet (Answers (plan_of c.args.self.now) out Going) u c.args.at (take n piece)) (sym i.empty)
     (whole_fed quiet u c.args.at (take n piece) (let a = length-take-le n piece i.within in omega arith) (i.quiet u h))

@@ -1,5 +1,6 @@
 use Rattle.std.proofs.Common.{◌≡◌, ◌+◌, ◌-◌, ◌<◌, ◌≤◌, List, [], ◌++◌, length, take, true, None}
-use Rattle.source_merge.specs.Names.{Placed, placed_from, EachByte}
+use Rattle.trace_values.specs.Placed.{Placed, placed_from}
+use Rattle.deformatter.specs.Block.{EachByte}
 use Rattle.source_merge.specs.Answering.{Answers}
 use Rattle.source_merge.specs.declared.flow.Flow.TheVariants.{Going}
 use Rattle.source_merge.specs.Engine.{Stands, is_live, next_of, plan_of}
