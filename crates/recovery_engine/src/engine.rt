@@ -11,8 +11,9 @@ use crate::ends::{port_end, source_tails};
 use crate::router::{take_each, take_step, take_whole};
 use crate::slot::{Slots, slots_of};
 use arrayvec::ArrayVec;
-use frame_grammar::gather::PlacedFrame;
-use frame_runs::{PieceRun, bare_source, place_frame};
+use frame_grammar::gather::{PlacedFrame, gather_frame_at};
+use frame_grammar::plain::plain_frame;
+use frame_runs::{PieceRun, bare_source, place_plain};
 use recovering_machines::{Hearer, RecoveringPort};
 use source_counts::Counts;
 use source_events::{Plan, PortCounts, SourceKind, Tails};
@@ -110,6 +111,7 @@ impl Recovery {
     ///
     /// The piece has a byte, and there is room for 30 events. Its first offset is at least `next()`, and its last one
     /// at most `GREATEST_OFFSET`.
+    #[inline(always)]
     pub fn take<V: Hearer>(&mut self, at: u64, piece: &[u8], out: &mut V, to: &mut V::To) -> usize
         requires some { 0 < length piece.now }
         requires offsets { (next_of self.old ≤ at) × (at + length piece.now ≤ GREATEST_OFFSET + 1) }
@@ -187,6 +189,7 @@ impl Recovery {
 
     /// Takes the whole frame that a piece begins with, with half synchronisations between its halfwords or without, or
     /// else bytes as `take_step` does.
+    #[inline(always)]
     fn take_framed<V: Hearer>(
         &mut self,
         at: u64,
@@ -201,35 +204,75 @@ impl Recovery {
         ensures { TakesFront V.gets V.room at piece.now result
             (self.old, (out.old, to.old)) (self.new, (out.new, to.new)) }
     {
-        let Some(frame) = self.frame_at(at, piece) else {
-            return self.take_step(at, piece, out, to);
-        };
+        if self.is_between() {
+            if let Some(frame) = plain_frame(piece) {
+                let frame = place_plain(at, piece, frame);
+                return self.take_gathered(at, piece, &frame, out, to);
+            }
+        }
+        self.take_spaced(at, piece, out, to)
+    }
+
+    /// Takes the whole frame that a piece begins with, with half synchronisations between its halfwords, or else bytes
+    /// as `take_step` does. Kept out of line: in line, its locals would be cleared before each plain frame.
+    #[inline(never)]
+    fn take_spaced<V: Hearer>(
+        &mut self,
+        at: u64,
+        piece: &[u8],
+        out: &mut V,
+        to: &mut V::To,
+    ) -> usize
+        requires framed { self.old.plan.frames ≢ Bare }
+        requires some { 0 < length piece.now }
+        requires offsets { (next_of self.old ≤ at) × (at + length piece.now ≤ GREATEST_OFFSET + 1) }
+        requires room { 30 ≤ V.room (out.old, to.old) }
+        ensures { TakesFront V.gets V.room at piece.now result
+            (self.old, (out.old, to.old)) (self.new, (out.new, to.new)) }
+    {
+        if self.is_between() {
+            if let Some(frame) = &gather_frame_at(at, piece) {
+                return self.take_gathered(at, piece, frame, out, to);
+            }
+        }
+        self.take_step(at, piece, out, to)
+    }
+
+    /// Takes the whole frame that a piece begins with.
+    #[inline(always)]
+    fn take_gathered<V: Hearer>(
+        &mut self,
+        at: u64,
+        _piece: &[u8],
+        frame: &PlacedFrame,
+        out: &mut V,
+        to: &mut V::To,
+    ) -> usize
+        requires framed { self.old.plan.frames ≢ Bare }
+        requires between { IsBetween self.old.port }
+        requires offsets { (next_of self.old ≤ at) × (at + length _piece.now ≤ GREATEST_OFFSET + 1) }
+        requires room { 30 ≤ V.room (out.old, to.old) }
+        requires within { FRAME_BYTES + 2 * frame.now.halves ≤ length _piece.now }
+        requires here { frame.now.at ≡ at }
+        requires is { IsGathered frame.now.at (take (FRAME_BYTES + 2 * frame.now.halves) _piece.now) frame.now }
+        ensures { TakesFront V.gets V.room at _piece.now result
+            (self.old, (out.old, to.old)) (self.new, (out.new, to.new)) }
+    {
         let before = self.port.id();
-        self.pass_gathered(&frame);
-        take_whole(self.slots.as_mut_slice(), &frame, &before, out, to);
+        self.pass_gathered(frame);
+        take_whole(self.slots.as_mut_slice(), frame, &before, out, to);
         frame.size()
     }
 
-    /// The whole frame that a piece begins with, whose first byte is at this offset, where the port is between two
-    /// frames.
+    /// There is a formatter, and the port is between two frames.
     #[inline(always)]
-    fn frame_at(&self, at: u64, piece: &[u8]) -> Option<PlacedFrame>
-        requires limit { at + length piece.now ≤ GREATEST_OFFSET + 1 }
-        ensures between { IfSome result (λ frame. (self.now.plan.frames ≢ Bare) × IsBetween self.now.port) }
-        ensures within { IfSome result (λ frame. FRAME_BYTES + 2 * frame.halves ≤ length piece.now) }
-        ensures here { IfSome result (λ frame. frame.at ≡ at) }
-        ensures is { IfSome result (λ frame.
-            IsGathered frame.at (take (FRAME_BYTES + 2 * frame.halves) piece.now) frame) }
+    fn is_between(&self) -> bool
+        ensures framed { result ≡ true → self.now.plan.frames ≢ Bare }
+        ensures between { result ≡ true → IsBetween self.now.port }
     {
         match self.plan.frames {
-            FramesMode::Bare => None,
-            FramesMode::Hunt | FramesMode::Aligned => {
-                if self.port.is_between() {
-                    place_frame(at, piece)
-                } else {
-                    None
-                }
-            }
+            FramesMode::Bare => false,
+            FramesMode::Hunt | FramesMode::Aligned => self.port.is_between(),
         }
     }
 
@@ -253,20 +296,39 @@ impl Recovery {
     /// Where no source is mapped: takes the whole frame that a piece begins with, whose first byte is at this offset,
     /// and answers how many bytes that is. It leaves what `take` does; the frame's events, none of which is a packet or
     /// a fault, are not made. None says nothing of the bytes, and takes none.
-    #[inline]
+    #[inline(always)]
     pub fn count_frame(&mut self, at: u64, piece: &[u8]) -> Option<usize>
         requires offsets { (next_of self.old ≤ at) × (at + length piece.now ≤ GREATEST_OFFSET + 1) }
         ensures none { result ≡ None → self.new ≡ self.old }
         ensures counts { IfSome result (λ n. CountsFront at piece.now n self.old self.new) }
     {
-        if !self.maps_none() {
+        if !self.maps_none() || !self.is_between() {
             return None;
         }
-        let Some(frame) = self.frame_at(at, piece) else {
-            return None;
-        };
-        self.pass_gathered(&frame);
-        Some(frame.size())
+        if let Some(frame) = plain_frame(piece) {
+            let frame = place_plain(at, piece, frame);
+            return Some(self.count_gathered(at, piece, &frame));
+        }
+        match &gather_frame_at(at, piece) {
+            Some(frame) => Some(self.count_gathered(at, piece, frame)),
+            None => None,
+        }
+    }
+
+    /// Where no source is mapped: counts the whole frame that a piece begins with, over which the port passes.
+    #[inline(always)]
+    fn count_gathered(&mut self, at: u64, _piece: &[u8], frame: &PlacedFrame) -> usize
+        requires none { self.old.slots.items ≡ [] }
+        requires framed { self.old.plan.frames ≢ Bare }
+        requires between { IsBetween self.old.port }
+        requires offsets { (next_of self.old ≤ at) × (at + length _piece.now ≤ GREATEST_OFFSET + 1) }
+        requires within { FRAME_BYTES + 2 * frame.now.halves ≤ length _piece.now }
+        requires here { frame.now.at ≡ at }
+        requires is { IsGathered frame.now.at (take (FRAME_BYTES + 2 * frame.now.halves) _piece.now) frame.now }
+        ensures { CountsFront at _piece.now result self.old self.new }
+    {
+        self.pass_gathered(frame);
+        frame.size()
     }
 
     /// Takes bytes of a capture in frames up to the first one that ends a frame or a synchronisation, or is a fault, or

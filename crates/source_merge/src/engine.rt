@@ -228,7 +228,7 @@ impl Engine {
     /// nothing of the bytes, and takes none.
     ///
     /// The engine is live. The piece's first offset is at least `next()`, and its last one at most `GREATEST_OFFSET`.
-    #[inline]
+    #[inline(always)]
     pub fn count_frame(&mut self, at: u64, piece: &[u8]) -> Option<usize>
         requires live { is_live self.old ≡ true }
         requires offsets { (next_of self.old ≤ at) × (at + length piece.now ≤ GREATEST_OFFSET + 1) }

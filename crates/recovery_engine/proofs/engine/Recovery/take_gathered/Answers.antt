@@ -10,7 +10,7 @@ use Rattle.recovery_engine.specs.Slots.{total}
 use Rattle.recovery_engine.specs.Taking.{Takes}
 use Rattle.recovery_engine.specs.declared.slot.RecoveringSlot.{RecoveringSlot}
 use Rattle.recovery_engine.proofs.Gathering.{fronted, took}
-use Rattle.recovery_engine.proofs.engine.Recovery.take_framed.Goals as goal
+use Rattle.recovery_engine.proofs.engine.Recovery.take_gathered.Goals as goal
 
 pub invariant_of-self : goal.invariant_of-self
 invariant_of-self g c =
@@ -34,12 +34,12 @@ invariant_of-self g c =
 pub returns : goal.returns
 returns g c =
     let self = c.args.self.now in
-    let frame = c.in-Some.frame in
+    let frame = c.args.frame.now in
     let passed = c.pass_gathered.new.self in
     let p = c.pass_gathered.ensures in
     let runs : Option ℕ → List Part = λ i. map Run (runs_of (cells frame.bytes (frame_places frame) i)) in
-    let seen = c.in-Some.ensures in
-    fronted g.V.Hearer.gets g.V.Hearer.room frame c.args.at c.size.result c.args.piece.now self _ seen.here c.size.ensures
+    let seen = c.requires in
+    fronted g.V.Hearer.gets g.V.Hearer.room frame c.args.at c.size.result c.args._piece.now self _ seen.here c.size.ensures
     seen.within seen.is p.plan p.guesses p.next p.adds p.late
     (subst (λ (l : List RecoveringSlot). Takes g.V.Hearer.gets (runs (id_of self.port))
     (l, (c.args.out.now, c.args.to.now)) (
