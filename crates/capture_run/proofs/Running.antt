@@ -201,7 +201,7 @@ module _ (limit : ℕ) (old : Streams) (noted : Option (List ℕ)) (faults : ℕ
   }
 
   pub made_unopened : (text : List ℕ) → HasMade text old (with_notes old noted faults) NoMemory
-  made_unopened text = record {
+  made_unopened page = record {
     out = [];
     note = codes "no memory\n";
     lost = keeps old.left;

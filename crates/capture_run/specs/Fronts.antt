@@ -5,7 +5,7 @@ use Rattle.capture_actions.specs.Listing.{listed}
 use Rattle.capture_actions.specs.declared.list_plan.ListPlan.{ListPlan}
 use Rattle.capture_words.specs.declared.job.Task.{Task}
 use Rattle.capture_words.specs.declared.job.Task.TheVariants.{Show}
-use Rattle.capture_words.specs.declared.recover.Recover.TheVariants.{Off}
+use Rattle.capture_words.specs.declared.recover.Recover.{Recover}
 use Rattle.deformatter.specs.PortReading.{port_reading}
 use Rattle.resync_laws.specs.Report.{rest_plan, left_bytes, left_report, ReportFollows, skips}
 use Rattle.resync_grammars.specs.Port.{rest_mode}
@@ -20,10 +20,10 @@ use Rattle.trace_text.specs.EndText.{tails_text}
 use Rattle.trace_values.specs.Placed.{placed}
 
 -- The task lists, without a filter, a capture that begins anywhere in one that this plan reads whole: with the same
--- sources and order of values, and hunting at the port, if it has frames, and at each source. The plan itself may hunt
--- or not.
+-- sources and order of values, hunting at the port, if it has frames, and at each source, and with any `--recover`. The
+-- plan itself may hunt or not.
 abbrev pub ListsRest : Plan → Task → Type 0
-ListsRest whole task = task ≡ Show (rest_plan whole) None None Off
+ListsRest whole task = (recover : Recover) × (task ≡ Show (rest_plan whole) None None recover)
 
 -- this plan reads without a fault the whole capture, of which some bytes are lost and others are left
 abbrev pub IsSoundWhole : Plan → List ℕ → List ℕ → Type 0

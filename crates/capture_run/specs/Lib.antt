@@ -3,6 +3,7 @@ pub mod Statuses
 pub mod Actions
 pub mod Run
 pub mod Pages
+pub mod Tasks
 pub mod Fronts
 pub mod Rebuilds
 pub mod Recovers

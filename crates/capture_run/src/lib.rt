@@ -27,6 +27,7 @@ mod notes;
 mod pages;
 mod reading;
 mod status;
+pub mod task_laws;
 
 use capture_words::{Asked, read_words};
 use jobs::run_job;
@@ -45,8 +46,8 @@ use trace_io::{Sink, Source};
 ///
 /// A capture may begin in the middle of a stream. Take any bytes that may have come before those read, so that
 /// the whole reads without a fault, whether by hunts or not. Where `show` hunts at the port, if it has frames, and
-/// at each source, has no filter, stops at a fault and is done, what it wrote follows that whole: from each source's
-/// point on it lists the whole's events, in the whole's order, at offsets that count from the first byte read
+/// at each source, has no filter and is done, with any `--recover`, what it wrote follows that whole: from each
+/// source's point on it lists the whole's events, in the whole's order, at offsets that count from the first byte read
 /// (`fronts`).
 ///
 /// Where `rebuild` or `funnel` is done, the output gained the capture of the script, and that capture reads back,

@@ -8,3 +8,4 @@ pub mod Plain
 pub mod Noted
 pub mod Kinded
 pub mod Items
+pub mod Faultless

@@ -37,7 +37,8 @@ pub returns-in-Do-clause-fronts : goal.returns-in-Do-clause-fronts
 returns-in-Do-clause-fronts g c = λ job whole lost bytes asks lists loses sound done.
     let mine : Job = c.in-Do.job in
     let same = same_job _ job mine _ asks c.read_words.ensures.asked c.in-Do.is in
-    follows_whole mine.task mine.limit _ _ c.run_job.result whole lost bytes c.run_job.ensures.ran
+    follows_whole mine.task mine.limit _ _ c.run_job.result whole lost bytes
+    (c.read_words.ensures.sound mine c.in-Do.is) c.run_job.ensures.ran
     (subst (λ (j : Job). ListsRest whole j.task) same lists) done loses sound
 
 pub returns-in-Do-clause-reads_back : goal.returns-in-Do-clause-reads_back
