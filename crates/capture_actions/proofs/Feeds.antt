@@ -3,7 +3,7 @@ use Rattle.std.proofs.Common.{◌≡◌, ◌∙◌, ℕ, ◌+◌, ◌-◌, [], L
 use Rattle.std.proofs.Common.{append-nil, length-append, arith, Bool, false}
 use Rattle.std.proofs.lemmas.List.{take_all, length-drop}
 use Rattle.std.proofs.Math.Seq.{take-add}
-use Rattle.source_merge.specs.Giving.{AddsUp}
+use Rattle.recovering_machines.specs.Hearing.{AddsUp}
 use Rattle.capture_actions.specs.Names.{placed, FaultAfter, Event, Packet, Plan, report_of}
 use Rattle.capture_actions.specs.CaptureReading.{plan_of, taken_by, IsLive, Stands, Grew, TakesOn}
 use Rattle.capture_actions.specs.Faulty.{IsFaulty}

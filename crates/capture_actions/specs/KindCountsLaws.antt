@@ -3,7 +3,7 @@ use Rattle.std.proofs.Common.{List, [], ◌++◌, sym, subst, append_assoc, appe
 use Rattle.capture_actions.specs.Names.{Event, Packet}
 use Rattle.capture_actions.specs.declared.kind_counts.KindCounts.{KindCounts}
 use Rattle.capture_actions.specs.KindCounts.{HasCounted, gets}
-use Rattle.source_merge.specs.Giving.{AddsUp}
+use Rattle.recovering_machines.specs.Hearing.{AddsUp}
 
 gets_none : (s : KindCounts × Unit {0}) → gets s [] s
 gets_none s = λ before h. subst (λ (es : List (Event Packet)). HasCounted s.0 es) (sym (append-nil before)) h

@@ -11,7 +11,7 @@ use Rattle.capture_actions.specs.LineLaws.{lines_more}
 use Rattle.capture_actions.specs.Lister.{Lists, gets}
 use Rattle.capture_actions.specs.Listing.{lines_from}
 use Rattle.capture_actions.specs.SourceClocks.{AllStand}
-use Rattle.source_merge.specs.Giving.{AddsUp}
+use Rattle.recovering_machines.specs.Hearing.{AddsUp}
 
 gets_none : (s : Lister × List ℕ) → gets s [] s
 gets_none s = record {

@@ -37,7 +37,7 @@ pub use Rattle.source_events.specs.declared.plan.SourceKind.TheVariants.{Stp}
 pub use Rattle.source_merge.specs.Answering.{fault_of, report_of}
 pub use Rattle.source_merge.specs.Engine.{Stands, is_live, plan_of}
 pub use Rattle.source_merge.specs.Front.{ReadsTo}
-pub use Rattle.source_merge.specs.Receiver.{packet_event}
+pub use Rattle.recovering_machines.specs.Events.{packet_event}
 pub use Rattle.source_merge.specs.declared.engine.Engine.{Engine}
 pub use Rattle.source_merge.specs.declared.flow.Flow.TheVariants.{Going}
 pub use Rattle.stp_grammar.specs.declared.item.StpItem.{StpItem}

@@ -5,7 +5,7 @@ use Rattle.capture_actions.specs.declared.port_values.PortValues.{PortValues}
 use Rattle.capture_actions.specs.PortText.{values_in}
 use Rattle.capture_actions.specs.PortTextLaws.{values_append}
 use Rattle.capture_actions.specs.PortValues.{gets}
-use Rattle.source_merge.specs.Giving.{AddsUp}
+use Rattle.recovering_machines.specs.Hearing.{AddsUp}
 
 gets_none : (s : PortValues × List ℕ) → gets s [] s
 gets_none s = (refl, sym (append-nil s.1))

@@ -10,10 +10,12 @@ use crate::kind_counts::MANY;
 use crate::plan_table::sends_stp;
 use crate::reading::{CaptureReading, TURNS};
 use itm_grammar::packet::ItmPacket;
+use recovering_machines::Receiver;
 use source_counts::Counts;
 use source_events::{Event, Packet, Plan, SourceKind};
-use source_merge::{Engine, Receiver};
+use source_merge::Engine;
 use stp_grammar::said::Said;
+use stretch_readings::Heard;
 use trace_stream::{Action, OUTLET_ROOM, Outlet, Progress, TEXT_ROOM};
 use trace_text::{
     PortCountsLines, SOURCE_COUNTS_ROOM, TAILS_ROOM, print_fault, print_tails, put_source_counts,
@@ -51,7 +53,7 @@ impl Receiver for Ignored {
     ghost takes_on = { λ a b es source kind g t. t };
 
     #[inline(always)]
-    fn give(&mut self, _to: &mut (), _event: Event<Packet>) {}
+    fn give(&mut self, _to: &mut (), _event: Event<Heard<Packet>>) {}
 
     #[inline(always)]
     fn events_left(&self, _to: &()) -> usize {

@@ -7,9 +7,10 @@ ghost use Rattle.capture_actions.specs.KindCounts.{HasCounted, number_at};
 
 use crate::item_word::{ItemWord, WORD_COUNT};
 use itm_grammar::packet::ItmPacket;
+use recovering_machines::{Receiver, seen};
 use source_events::{Event, Packet, SourceKind};
-use source_merge::Receiver;
 use stp_grammar::said::Said;
+use stretch_readings::Heard;
 use trace_values::{ID_COUNT, SourceId};
 
 /// A number for each word of each source.
@@ -86,20 +87,24 @@ impl KindCounts {
 impl Receiver for KindCounts {
     ghost use Rattle.capture_actions.specs.KindCounts.{gets, room};
     ghost use Rattle.capture_actions.specs.KindCountsLaws.{adds_up};
+    ghost use Rattle.recovering_machines.specs.Hearing.{takes_seen};
+    ghost use Rattle.recovering_machines.specs.HearingLaws.{seen_adds_up};
 
     type To = ();
 
-    ghost gets = { gets };
+    ghost gets = { λ old es new. takes_seen gets old es new };
 
     ghost room = { room };
 
-    ghost adds_up = { adds_up };
+    ghost adds_up = { seen_adds_up gets adds_up };
 
     ghost takes_on = { λ a b es source kind g t. t };
 
     #[inline(always)]
-    fn give(&mut self, _to: &mut (), event: Event<Packet>) {
-        self.add_event(&event);
+    fn give(&mut self, _to: &mut (), event: Event<Heard<Packet>>) {
+        if let Some(event) = seen(event) {
+            self.add_event(&event);
+        }
     }
 
     #[inline(always)]

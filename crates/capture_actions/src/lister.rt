@@ -7,7 +7,7 @@ ghost use Rattle.capture_actions.specs.Names.{StpItem, event_line, fault_line, s
 ghost use Rattle.source_events.specs.declared.event.What.TheVariants.{Packet as GivenPacket};
 ghost use Rattle.std.specs.Option.{is_some};
 ghost use Rattle.std.specs.Prelude.{true};
-ghost use Rattle.source_merge.specs.Receiver.{trigger_event};
+ghost use Rattle.recovering_machines.specs.Events.{trigger_event};
 ghost use Rattle.stp_grammar.specs.Said.{said_item, IsProperSaid};
 ghost use Rattle.trace_text.specs.LineText.{doubted, itm_event, raw_event, stp_event};
 ghost use Rattle.capture_actions.specs.Faulty.{is_stp};
@@ -21,9 +21,10 @@ use crate::plan_table::{PlanTable, sends_stp};
 use crate::source_clocks::SourceClocks;
 use item_tap::{Bounds, Choices, is_stamp};
 use itm_grammar::packet::ItmPacket;
+use recovering_machines::{Receiver, seen};
 use source_events::{Event, Packet, Plan, RunBytes, SourceKind, Stop, What};
-use source_merge::Receiver;
 use stp_grammar::said::Said;
+use stretch_readings::Heard;
 use trace_stream::{OUTLET_ROOM, Outlet, TEXT_ROOM};
 use trace_text::{
     Digits, EVENT_ROOM, Remark, print, print_fault, print_guess, print_misread, put_line,
@@ -194,7 +195,7 @@ impl Lister {
 
     /// Takes the next event, which is one that comes seldom: a notice, or a byte of the trigger source within a window.
     #[inline(never)]
-    fn put_seldom(&mut self, outlet: &mut Outlet, event: Event<Packet>)
+    pub fn put_seldom(&mut self, outlet: &mut Outlet, event: Event<Packet>)
         requires fits { EventFits PacketFits event }
         requires room { length outlet.old + TEXT_ROOM ≤ OUTLET_ROOM }
         ensures gets { gets (self.old, outlet.old) (event ∷ []) (self.new, outlet.new) }
@@ -366,23 +367,27 @@ fn trigger_of(at: u64, source: SourceId, byte: u8) -> Event<Packet>
 impl Receiver for Lister {
     ghost use Rattle.capture_actions.specs.Lister.{gets, room, Lists};
     ghost use Rattle.capture_actions.specs.ListerLaws.{adds_up, lists_on};
+    ghost use Rattle.recovering_machines.specs.Hearing.{seen_in, takes_seen};
+    ghost use Rattle.recovering_machines.specs.HearingLaws.{seen_adds_up};
 
     type To = Outlet;
 
-    ghost gets = { gets };
+    ghost gets = { λ old es new. takes_seen gets old es new };
 
     ghost room = { room };
 
     ghost takes = { Lists };
 
-    ghost adds_up = { adds_up };
+    ghost adds_up = { seen_adds_up gets adds_up };
 
-    ghost takes_on = { lists_on };
+    ghost takes_on = { λ a b es source kind g t. lists_on a b (seen_in es) source kind g t };
 
     /// What comes so is seldom: the notice of a lock.
     #[inline(always)]
-    fn give(&mut self, outlet: &mut Outlet, event: Event<Packet>) {
-        self.put_seldom(outlet, event);
+    fn give(&mut self, outlet: &mut Outlet, event: Event<Heard<Packet>>) {
+        if let Some(event) = seen(event) {
+            self.put_seldom(outlet, event);
+        }
     }
 
     #[inline(always)]

@@ -7,9 +7,10 @@ ghost use Rattle.capture_actions.specs.Names.{OUTLET_ROOM, is_of};
 ghost use Rattle.capture_actions.specs.PortText.{value_of};
 
 use itm_grammar::packet::{ItmPacket, Size};
+use recovering_machines::{Receiver, seen};
 use source_events::{Event, Packet, SourceKind, What};
-use source_merge::Receiver;
 use stp_grammar::said::Said;
+use stretch_readings::Heard;
 use trace_stream::{OUTLET_ROOM, Outlet};
 use trace_values::SourceId;
 
@@ -52,6 +53,8 @@ fn put_value(outlet: &mut Outlet, size: Size, value: u32)
 }
 
 impl PortValues {
+    ghost use Rattle.capture_actions.specs.PortValues.{gets};
+
     /// Takes the next packet of this source, and puts its value if it is one of the port.
     #[inline(always)]
     fn put_packet(&self, outlet: &mut Outlet, source: Option<SourceId>, packet: &ItmPacket)
@@ -66,27 +69,41 @@ impl PortValues {
             }
         }
     }
+
+    /// Takes the next event, and puts its value if it is a packet of the port.
+    #[inline(always)]
+    fn put_event(&self, outlet: &mut Outlet, event: &Event<Packet>)
+        requires room { length outlet.old + COPY_ROOM ≤ OUTLET_ROOM }
+        ensures gets { gets (self.now, outlet.old) (event.now ∷ []) (self.now, outlet.new) }
+        ensures bound { length outlet.new ≤ length outlet.old + VALUE_ROOM }
+    {
+        if let What::Packet(Packet::Itm(packet)) = &event.what {
+            self.put_packet(outlet, event.source, packet);
+        }
+    }
 }
 
 /// Of all events the values of the port alone go to the outlet.
 impl Receiver for PortValues {
     ghost use Rattle.capture_actions.specs.PortValues.{gets, room};
     ghost use Rattle.capture_actions.specs.PortValuesLaws.{adds_up};
+    ghost use Rattle.recovering_machines.specs.Hearing.{takes_seen};
+    ghost use Rattle.recovering_machines.specs.HearingLaws.{seen_adds_up};
 
     type To = Outlet;
 
-    ghost gets = { gets };
+    ghost gets = { λ old es new. takes_seen gets old es new };
 
     ghost room = { room };
 
-    ghost adds_up = { adds_up };
+    ghost adds_up = { seen_adds_up gets adds_up };
 
     ghost takes_on = { λ a b es source kind g t. t };
 
     #[inline(always)]
-    fn give(&mut self, outlet: &mut Outlet, event: Event<Packet>) {
-        if let What::Packet(Packet::Itm(packet)) = &event.what {
-            self.put_packet(outlet, event.source, packet);
+    fn give(&mut self, outlet: &mut Outlet, event: Event<Heard<Packet>>) {
+        if let Some(event) = seen(event) {
+            self.put_event(outlet, &event);
         }
     }
 

@@ -5,8 +5,9 @@ ghost use Rattle.capture_actions.specs.Names.{Placed, placed_from, is_sound, is_
 ghost use Rattle.source_merge.specs.Engine as engine;
 ghost use Rattle.recovery_engine.specs.declared.engine.TheConstants.{GREATEST_OFFSET};
 
+use recovering_machines::Receiver;
 use source_events::{Plan, Stop};
-use source_merge::{Engine, Receiver};
+use source_merge::Engine;
 use trace_stream::Progress;
 
 /// How many turns one call takes at most, where there is room for their events.
@@ -55,6 +56,7 @@ fn has_more<V: Receiver>(is_faulty: bool, done: usize, piece: &[u8], out: &V, to
 
 impl CaptureReading {
     ghost use Rattle.trace_io.specs.Bytes.{TakesSome};
+    ghost use Rattle.recovering_machines.specs.Hearing.{takes_read};
     ghost use Rattle.source_merge.specs.Giving.{GivesTo};
     ghost use Rattle.capture_actions.specs.CaptureReading.{Stands, plan_of, taken_by, IsLive, ReadsOn, TakesOn};
 
@@ -79,7 +81,7 @@ impl CaptureReading {
         requires some { 0 < length piece.now }
         requires count { taken_by self.old + length piece.now ≤ GREATEST_CAPTURE }
         ensures front { TakesSome piece.now result.bytes }
-        ensures took { TakesOn V.gets (self.old, (out.old, to.old)) (self.new, (out.new, to.new))
+        ensures took { TakesOn (takes_read V.gets) (self.old, (out.old, to.old)) (self.new, (out.new, to.new))
             (take result.bytes piece.now) result.is_faulty }
     {
         let at = self.engine.next();
@@ -107,7 +109,7 @@ impl CaptureReading {
         ensures same { plan_of self.new ≡ plan_of self.old }
         ensures front { TakesSome piece.now result.bytes }
         ensures count { taken_by self.new ≡ taken_by self.old + result.bytes }
-        ensures reads { GivesTo V.gets (out.old, to.old) (out.new, to.new)
+        ensures reads { GivesTo (takes_read V.gets) (out.old, to.old) (out.new, to.new)
             (ReadsOn self.old self.new (take result.bytes piece.now) result.is_faulty) }
         ensures live { result.is_faulty ≡ false → IsLive self.new }
     {

@@ -1,5 +1,5 @@
 -- What events of a recovering report are in a strict one, and which are given.
-use Rattle.std.specs.Prelude.{ℕ, Bool, true, false, List, [], ◌++◌, Option, Some, Result, Ok, Err}
+use Rattle.std.specs.Prelude.{ℕ, Bool, true, false, List, [], ◌∷◌, ◌++◌, map, flat_map, Option, Some, Result, Ok, Err}
 use Rattle.trace_values.specs.declared.fault.Reason.{Reason}
 use Rattle.source_events.specs.declared.event.Event.{Event}
 use Rattle.source_events.specs.declared.event.What.{What}
@@ -28,6 +28,34 @@ is_guess what = false
 -- the event there
 abbrev pub as_event : Event (Heard Packet) → What Packet → Event Packet
 as_event e what = record { at = e.at; half = e.half; source = e.source; what = what }
+
+-- the events that a report without faults has of these: none is a fault
+abbrev pub seen_by : Event (Heard Packet) → Result (What Packet) Reason → List (Event Packet)
+seen_by e (Ok what) = as_event e what ∷ []
+seen_by e (Err reason) = []
+
+abbrev pub seen_in : List (Event (Heard Packet)) → List (Event Packet)
+seen_in es = flat_map (λ e. seen_by e (as_strict e.what)) es
+
+-- an event of a report without faults, in one that goes on
+abbrev pub as_read_what : What Packet → What (Heard Packet)
+as_read_what (Locked skipped) = Locked skipped
+as_read_what (Said packet) = Said (Read packet)
+as_read_what (Raw bytes) = Raw bytes
+as_read_what (Trigger byte) = Trigger byte
+
+abbrev pub as_read : Event Packet → Event (Heard Packet)
+as_read e = record { at = e.at; half = e.half; source = e.source; what = as_read_what e.what }
+
+-- Of events, what takes those of a report without faults was given all but the faults.
+abbrev pub takes_seen : {S : Type 0} → (S → List (Event Packet) → S → Type 0) →
+    S → List (Event (Heard Packet)) → S → Type 0
+takes_seen gets old es new = gets old (seen_in es) new
+
+-- What takes those of a report that goes on was given these, which have no fault.
+abbrev pub takes_read : {S : Type 0} → (S → List (Event (Heard Packet)) → S → Type 0) →
+    S → List (Event Packet) → S → Type 0
+takes_read gets old es new = gets old (map as_read es) new
 
 -- it fits there; a fault always does
 abbrev pub StrictFits : Result (What Packet) Reason → Option ℕ → Type 0

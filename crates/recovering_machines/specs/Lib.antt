@@ -2,6 +2,9 @@ pub mod Port
 pub mod Units
 pub mod Source
 pub mod Hearing
+pub mod HearingLaws
+pub mod Events
+pub mod EventsLaws
 pub mod Run
 pub mod Found
 pub mod Guess

@@ -14,7 +14,7 @@ ghost use Rattle.trace_values.specs.declared.limits.TheConstants.{COUNT_ROOM};
 ghost use Rattle.trace_values.specs.declared.taking.Found.TheVariants.{Ends, Waits};
 ghost use Rattle.recovering_machines.specs.Found.{TookPackets, ended, heard_in, packet_of, source_machines};
 
-use crate::hearer::Hearer;
+use crate::receiver::Receiver;
 use frame_runs::Run;
 use itm_codec::ItmDecoder;
 use source_events::Packet;
@@ -26,7 +26,7 @@ use trace_values::{Found, Machine, SourceId, TakenAtOnce};
 /// is hangs on the machine's type alone, so that the loop over its packets has no other.
 pub trait HearsTold: Finds {
     /// Gives what a packet says that was taken up to the byte at this offset, where it says something.
-    fn hear_found<V: Hearer>(
+    fn give_found<V: Receiver>(
         id: SourceId,
         at: u64,
         taken: TakenAtOnce<Told>,
@@ -43,7 +43,7 @@ pub trait HearsTold: Finds {
 
 impl HearsTold for ItmDecoder {
     #[inline(always)]
-    fn hear_found<V: Hearer>(
+    fn give_found<V: Receiver>(
         id: SourceId,
         at: u64,
         taken: TakenAtOnce<Told>,
@@ -53,7 +53,7 @@ impl HearsTold for ItmDecoder {
         // It is matched in two steps, since by one pattern the packet would go to memory, too.
         if let Some(said) = taken.item {
             if let Told::Itm(packet) = said {
-                out.hear_itm(to, at, taken.half, id, packet);
+                out.give_itm(to, at, taken.half, id, packet);
             }
         }
     }
@@ -61,7 +61,7 @@ impl HearsTold for ItmDecoder {
 
 impl HearsTold for StpDecoder {
     #[inline(always)]
-    fn hear_found<V: Hearer>(
+    fn give_found<V: Receiver>(
         id: SourceId,
         at: u64,
         taken: TakenAtOnce<Told>,
@@ -69,7 +69,7 @@ impl HearsTold for StpDecoder {
         to: &mut V::To,
     ) {
         if let Some(Told::Stp(said)) = taken.item {
-            out.hear_said(to, at, taken.half, id, said);
+            out.give_said(to, at, taken.half, id, said);
         }
     }
 }
@@ -109,7 +109,7 @@ fn look<M: Finds>(
 /// Takes packets of a run of this source from this index on, as long as the machine finds them, and gives them. Answers
 /// the index after them.
 #[inline(never)]
-fn take_packets<M: HearsTold, R: Run, V: Hearer>(
+fn take_packets<M: HearsTold, R: Run, V: Receiver>(
     machine: &mut M,
     id: SourceId,
     run: &R,
@@ -143,7 +143,7 @@ fn take_packets<M: HearsTold, R: Run, V: Hearer>(
             Found::Ends(parts) => {
                 let taken = machine.end(&ahead[done..], parts, run.is_piece());
                 done += taken.bytes;
-                M::hear_found(id, run.cell(done - 1).at, taken, out, to);
+                M::give_found(id, run.cell(done - 1).at, taken, out, to);
             }
             Found::Waits => done = run.len(),
             Found::Unknown => return done,
@@ -154,7 +154,7 @@ fn take_packets<M: HearsTold, R: Run, V: Hearer>(
 
 /// Takes packets as above, with the machine of either protocol.
 #[inline(always)]
-pub fn take_found<R: Run, V: Hearer>(
+pub fn take_found<R: Run, V: Receiver>(
     machine: &mut SourceMachine,
     id: SourceId,
     run: &R,

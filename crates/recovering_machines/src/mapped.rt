@@ -9,8 +9,8 @@ ghost use Rattle.trace_values.specs.declared.limits.TheConstants.{COUNT_ROOM};
 ghost use Rattle.recovering_machines.specs.Guess.{AnswerFits, guessed_by, said_in};
 
 use crate::guess::{Answer, Guess};
-use crate::hearer::Hearer;
-use crate::run::{event_at, hear_step, take_one, take_within};
+use crate::receiver::Receiver;
+use crate::run::{event_at, give_step, take_one, take_within};
 use crate::source::RecoveringSource;
 use frame_runs::Run;
 use source_events::{Packet, SourceKind, What};
@@ -31,7 +31,7 @@ pub struct MappedSource {
 }
 
 /// Gives what a guess says in the byte at this offset.
-fn hear_guess<V: Hearer>(id: SourceId, at: u64, step: Step<Packet>, out: &mut V, to: &mut V::To)
+fn give_guess<V: Receiver>(id: SourceId, at: u64, step: Step<Packet>, out: &mut V, to: &mut V::To)
     requires fits { StepFits PacketFits step }
     requires room { 2 ≤ V.room (out.old, to.old) }
     ensures received { V.gets (out.old, to.old) (told (Some id) (lifted (guessed_by at step))) (out.new, to.new) }
@@ -40,28 +40,28 @@ fn hear_guess<V: Hearer>(id: SourceId, at: u64, step: Step<Packet>, out: &mut V,
     match step {
         Step::Quiet | Step::Skipping => {}
         Step::Item { half, item } | Step::Locked { half, item, .. } => {
-            out.hear(
+            out.give(
                 to,
                 event_at(id, at, half, What::Packet(Heard::Guessed(item))),
             );
         }
         Step::Fault(fault) => {
             let what = What::Packet(Heard::Misread(fault.reason));
-            out.hear(to, event_at(id, at, fault.half, what));
+            out.give(to, event_at(id, at, fault.half, what));
         }
     }
 }
 
 /// Gives what a source says in the byte at this offset.
-fn hear_answer<V: Hearer>(id: SourceId, at: u64, answer: Answer, out: &mut V, to: &mut V::To)
+fn give_answer<V: Receiver>(id: SourceId, at: u64, answer: Answer, out: &mut V, to: &mut V::To)
     requires fits { AnswerFits answer }
     requires room { 2 ≤ V.room (out.old, to.old) }
     ensures received { V.gets (out.old, to.old) (told (Some id) (lifted (said_in at answer))) (out.new, to.new) }
     ensures room { V.room (out.old, to.old) ≤ V.room (out.new, to.new) + 2 }
 {
     match answer {
-        Answer::Sure(step) => hear_step(id, at, step, out, to),
-        Answer::Guessed(step) => hear_guess(id, at, step, out, to),
+        Answer::Sure(step) => give_step(id, at, step, out, to),
+        Answer::Guessed(step) => give_guess(id, at, step, out, to),
     }
 }
 
@@ -92,7 +92,7 @@ impl MappedSource {
     }
 
     /// Takes a run of this source, and gives its events: at most two for each byte.
-    pub fn take_run<R: Run, V: Hearer>(
+    pub fn take_run<R: Run, V: Receiver>(
         &mut self,
         id: SourceId,
         run: &R,
@@ -112,7 +112,7 @@ impl MappedSource {
 
     /// Takes the packets of a run that are found from this index on, and then bytes of which none was. Answers the
     /// index after them.
-    fn take_part<R: Run, V: Hearer>(
+    fn take_part<R: Run, V: Receiver>(
         &mut self,
         id: SourceId,
         run: &R,
@@ -145,7 +145,7 @@ impl MappedSource {
     /// Takes packets of a run that are found from this index on, where nothing is read on. Answers the index after
     /// them.
     #[inline(always)]
-    fn take_found<R: Run, V: Hearer>(
+    fn take_found<R: Run, V: Receiver>(
         &mut self,
         id: SourceId,
         run: &R,
@@ -168,7 +168,7 @@ impl MappedSource {
     /// Takes bytes of a run from this index on within the unfinished packet, where nothing is read on. Answers the index
     /// after them: this index where nothing is known of the bytes.
     #[inline(always)]
-    fn take_within<R: Run, V: Hearer>(
+    fn take_within<R: Run, V: Receiver>(
         &mut self,
         id: SourceId,
         run: &R,
@@ -191,7 +191,7 @@ impl MappedSource {
 
     /// Takes bytes of a run from this index on, of which no packet was found. Answers the index after them.
     #[inline(never)]
-    fn take_others<R: Run, V: Hearer>(
+    fn take_others<R: Run, V: Receiver>(
         &mut self,
         id: SourceId,
         run: &R,
@@ -216,7 +216,7 @@ impl MappedSource {
     }
 
     /// Takes the byte of a run at this index.
-    fn take_byte<R: Run, V: Hearer>(
+    fn take_byte<R: Run, V: Receiver>(
         &mut self,
         id: SourceId,
         run: &R,
@@ -237,7 +237,7 @@ impl MappedSource {
         let cell = run.cell(index);
         let step = self.sure.feed(cell.at, cell.byte);
         let answer = self.guess.follow(cell.at, cell.byte, step);
-        hear_answer(id, cell.at, answer, out, to);
+        give_answer(id, cell.at, answer, out, to);
     }
 
     /// Cuts the source's list here: what comes is hunted anew with a count of 0, what is held is skipped, and nothing

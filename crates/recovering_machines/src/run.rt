@@ -12,7 +12,7 @@ ghost use Rattle.stretch_readings.specs.Stretches.{Stretches};
 ghost use Rattle.trace_values.specs.Stream.{StepFits};
 ghost use Rattle.trace_values.specs.declared.limits.TheConstants.{COUNT_ROOM};
 
-use crate::hearer::Hearer;
+use crate::receiver::Receiver;
 use crate::source::RecoveringSource;
 use frame_runs::Run;
 use source_events::{Event, Packet, What};
@@ -37,7 +37,7 @@ pub(crate) fn event_at(
 }
 
 /// Gives the events of an answer to the byte at this offset.
-pub(crate) fn hear_step<V: Hearer>(
+pub(crate) fn give_step<V: Receiver>(
     id: SourceId,
     at: u64,
     step: Step<Packet>,
@@ -52,25 +52,25 @@ pub(crate) fn hear_step<V: Hearer>(
     match step {
         Step::Quiet | Step::Skipping => {}
         Step::Item { half, item } => {
-            out.hear(to, event_at(id, at, half, What::Packet(Heard::Read(item))));
+            out.give(to, event_at(id, at, half, What::Packet(Heard::Read(item))));
         }
         Step::Locked {
             skipped,
             half,
             item,
         } => {
-            out.hear(to, event_at(id, at, half, What::Locked(skipped)));
-            out.hear(to, event_at(id, at, half, What::Packet(Heard::Read(item))));
+            out.give(to, event_at(id, at, half, What::Locked(skipped)));
+            out.give(to, event_at(id, at, half, What::Packet(Heard::Read(item))));
         }
         Step::Fault(fault) => {
             let what = What::Packet(Heard::Broken(fault.reason));
-            out.hear(to, event_at(id, at, fault.half, what));
+            out.give(to, event_at(id, at, fault.half, what));
         }
     }
 }
 
 /// Gives the packet that ends with the byte at this offset, where one does.
-fn hear_packet<V: Hearer>(
+fn give_packet<V: Receiver>(
     id: SourceId,
     at: u64,
     half: u8,
@@ -85,7 +85,7 @@ fn hear_packet<V: Hearer>(
     ensures room { V.room (out.old, to.old) ≤ V.room (out.new, to.new) + 1 }
 {
     if let Some(packet) = item {
-        out.hear(
+        out.give(
             to,
             event_at(id, at, half, What::Packet(Heard::Read(packet))),
         );
@@ -95,7 +95,7 @@ fn hear_packet<V: Hearer>(
 /// Takes bytes of a run of this source from this index on, within the unfinished packet, up to the one in which it ends,
 /// or all of them. Gives the packet, and answers the index after them: this index where nothing is known of the bytes.
 #[inline(always)]
-pub(crate) fn take_within<R: Run, V: Hearer>(
+pub(crate) fn take_within<R: Run, V: Receiver>(
     source: &mut RecoveringSource,
     id: SourceId,
     run: &R,
@@ -115,7 +115,7 @@ pub(crate) fn take_within<R: Run, V: Hearer>(
     let bytes = &run.ahead()[from..run.len()];
     if let Some(taken) = source.take(bytes) {
         let end = from + taken.bytes;
-        hear_packet(id, run.cell(end - 1).at, taken.half, taken.item, out, to);
+        give_packet(id, run.cell(end - 1).at, taken.half, taken.item, out, to);
         return end;
     }
     from
@@ -123,7 +123,7 @@ pub(crate) fn take_within<R: Run, V: Hearer>(
 
 /// Takes the byte of a run of this source at this index, and gives its events.
 #[inline(always)]
-pub(crate) fn take_one<R: Run, V: Hearer>(
+pub(crate) fn take_one<R: Run, V: Receiver>(
     source: &mut RecoveringSource,
     id: SourceId,
     run: &R,
@@ -139,5 +139,5 @@ pub(crate) fn take_one<R: Run, V: Hearer>(
 {
     let cell = run.cell(from);
     let step = source.feed(cell.at, cell.byte);
-    hear_step(id, cell.at, step, out, to);
+    give_step(id, cell.at, step, out, to);
 }

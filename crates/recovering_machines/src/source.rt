@@ -15,7 +15,7 @@ ghost use Rattle.trace_values.specs.declared.limits.TheConstants.{COUNT_ROOM};
 ghost use Rattle.recovering_machines.specs.Units.{BeginsHunt};
 
 use crate::found::{take_bytes, take_found};
-use crate::hearer::Hearer;
+use crate::receiver::Receiver;
 use frame_runs::Run;
 use source_events::{Packet, SourceKind};
 use source_machine::SourceMachine;
@@ -164,7 +164,7 @@ impl RecoveringSource {
     /// Takes packets of a run of this source from this index on, as long as they are found, and gives them. Answers the
     /// index after them.
     #[inline(always)]
-    pub fn take_packets<R: Run, V: Hearer>(
+    pub fn take_packets<R: Run, V: Receiver>(
         &mut self,
         id: SourceId,
         run: &R,

@@ -14,7 +14,7 @@ use arrayvec::ArrayVec;
 use frame_grammar::gather::{PlacedFrame, gather_frame_at};
 use frame_grammar::plain::plain_frame;
 use frame_runs::{PieceRun, bare_source, place_plain};
-use recovering_machines::{Hearer, RecoveringPort};
+use recovering_machines::{Receiver, RecoveringPort};
 use source_counts::Counts;
 use source_events::{Plan, PortCounts, SourceKind, Tails};
 use source_machine::AHEAD;
@@ -112,7 +112,7 @@ impl Recovery {
     /// The piece has a byte, and there is room for 30 events. Its first offset is at least `next()`, and its last one
     /// at most `GREATEST_OFFSET`.
     #[inline(always)]
-    pub fn take<V: Hearer>(&mut self, at: u64, piece: &[u8], out: &mut V, to: &mut V::To) -> usize
+    pub fn take<V: Receiver>(&mut self, at: u64, piece: &[u8], out: &mut V, to: &mut V::To) -> usize
         requires some { 0 < length piece.now }
         requires offsets { (next_of self.old ≤ at) × (at + length piece.now ≤ GREATEST_OFFSET + 1) }
         requires room { 30 ≤ V.room (out.old, to.old) }
@@ -133,7 +133,7 @@ impl Recovery {
 
     /// Takes bytes of a long piece of a capture with no formatter, where they are.
     #[inline(always)]
-    fn take_long<V: Hearer>(&mut self, at: u64, piece: &[u8], out: &mut V, to: &mut V::To) -> usize
+    fn take_long<V: Receiver>(&mut self, at: u64, piece: &[u8], out: &mut V, to: &mut V::To) -> usize
         requires bare { self.old.plan.frames ≡ Bare }
         requires some { END_ROOM < length piece.now }
         requires offsets { (next_of self.old ≤ at) × (at + length piece.now ≤ GREATEST_OFFSET + 1) }
@@ -152,7 +152,7 @@ impl Recovery {
 
     /// Takes bytes of a short piece of a capture with no formatter, which are copied.
     #[inline(never)]
-    fn take_short<V: Hearer>(&mut self, at: u64, piece: &[u8], out: &mut V, to: &mut V::To) -> usize
+    fn take_short<V: Receiver>(&mut self, at: u64, piece: &[u8], out: &mut V, to: &mut V::To) -> usize
         requires bare { self.old.plan.frames ≡ Bare }
         requires some { 0 < length piece.now }
         requires offsets { (next_of self.old ≤ at) × (at + length piece.now ≤ GREATEST_OFFSET + 1) }
@@ -173,7 +173,7 @@ impl Recovery {
 
     /// Takes this run of source 1 of a capture with no formatter, and answers how many bytes it has.
     #[inline(always)]
-    fn take_piece<V: Hearer>(&mut self, run: &PieceRun, out: &mut V, to: &mut V::To) -> usize
+    fn take_piece<V: Receiver>(&mut self, run: &PieceRun, out: &mut V, to: &mut V::To) -> usize
         requires bare { self.old.plan.frames ≡ Bare }
         requires some { 0 < run.now.count }
         requires offsets { (next_of self.old ≤ run.now.at) × (run.now.at + run.now.count ≤ GREATEST_OFFSET + 1) }
@@ -190,7 +190,7 @@ impl Recovery {
     /// Takes the whole frame that a piece begins with, with half synchronisations between its halfwords or without, or
     /// else bytes as `take_step` does.
     #[inline(always)]
-    fn take_framed<V: Hearer>(
+    fn take_framed<V: Receiver>(
         &mut self,
         at: u64,
         piece: &[u8],
@@ -216,7 +216,7 @@ impl Recovery {
     /// Takes the whole frame that a piece begins with, with half synchronisations between its halfwords, or else bytes
     /// as `take_step` does. Kept out of line: in line, its locals would be cleared before each plain frame.
     #[inline(never)]
-    fn take_spaced<V: Hearer>(
+    fn take_spaced<V: Receiver>(
         &mut self,
         at: u64,
         piece: &[u8],
@@ -240,7 +240,7 @@ impl Recovery {
 
     /// Takes the whole frame that a piece begins with.
     #[inline(always)]
-    fn take_gathered<V: Hearer>(
+    fn take_gathered<V: Receiver>(
         &mut self,
         at: u64,
         _piece: &[u8],
@@ -333,7 +333,7 @@ impl Recovery {
 
     /// Takes bytes of a capture in frames up to the first one that ends a frame or a synchronisation, or is a fault, or
     /// to the piece's end.
-    fn take_step<V: Hearer>(&mut self, at: u64, piece: &[u8], out: &mut V, to: &mut V::To) -> usize
+    fn take_step<V: Receiver>(&mut self, at: u64, piece: &[u8], out: &mut V, to: &mut V::To) -> usize
         requires framed { self.old.plan.frames ≢ Bare }
         requires some { 0 < length piece.now }
         requires offsets { (next_of self.old ≤ at) × (at + length piece.now ≤ GREATEST_OFFSET + 1) }

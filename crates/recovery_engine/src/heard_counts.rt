@@ -8,7 +8,7 @@ ghost use Rattle.source_events.specs.Merge.{is_of};
 
 use crate::per_source::PerSource;
 use itm_grammar::packet::ItmPacket;
-use recovering_machines::Hearer;
+use recovering_machines::Receiver;
 use source_events::{Event, Packet, SourceKind, What};
 use stp_grammar::said::Said;
 use stretch_readings::Heard;
@@ -27,7 +27,7 @@ pub struct HeardCounts {
 }
 
 impl HeardCounts {
-    ghost use Rattle.std.specs.Prelude.{List};
+    ghost use Rattle.std.specs.Prelude.{List, ◌++◌, ◌∷◌};
     ghost use Rattle.source_events.specs.declared.event.Event.{Event};
     ghost use Rattle.source_events.specs.declared.packet.Packet.{Packet};
     ghost use Rattle.stretch_readings.specs.declared.heard.Heard.{Heard};
@@ -87,10 +87,24 @@ impl HeardCounts {
         self.events += 1;
         self.faults += 1;
     }
+
+    /// Counts the next event.
+    pub fn count(&mut self, event: &Event<Heard<Packet>>)
+        requires room { heard_of self.old < COUNT_ROOM }
+        ensures counted { (es : List (Event (Heard Packet))) → HasHeard self.old es →
+            HasHeard self.new (es ++ event.now ∷ []) }
+        ensures more { heard_of self.new ≤ heard_of self.old + 1 }
+    {
+        match &event.what {
+            What::Packet(Heard::Read(_)) => self.add_packet(event.source),
+            What::Packet(Heard::Broken(_)) => self.add_fault(),
+            What::Packet(Heard::Guessed(_)) | What::Packet(Heard::Misread(_)) => {}
+            What::Locked(_) | What::Raw(_) | What::Trigger(_) => {}
+        }
+    }
 }
 
-impl Hearer for HeardCounts {
-    ghost use Rattle.std.specs.Prelude.{⊤};
+impl Receiver for HeardCounts {
     ghost use Rattle.recovery_engine.specs.Heard.{gets, room};
     ghost use Rattle.recovery_engine.specs.HeardLaws.{adds_up};
 
@@ -100,19 +114,12 @@ impl Hearer for HeardCounts {
 
     ghost room = { room };
 
-    ghost takes = { λ counts source kind. ⊤ };
-
     ghost adds_up = { adds_up };
 
     ghost takes_on = { λ a b es source kind g t. t };
 
-    fn hear(&mut self, _to: &mut (), event: Event<Heard<Packet>>) {
-        match event.what {
-            What::Packet(Heard::Read(_)) => self.add_packet(event.source),
-            What::Packet(Heard::Broken(_)) => self.add_fault(),
-            What::Packet(Heard::Guessed(_)) | What::Packet(Heard::Misread(_)) => {}
-            What::Locked(_) | What::Raw(_) | What::Trigger(_) => {}
-        }
+    fn give(&mut self, _to: &mut (), event: Event<Heard<Packet>>) {
+        self.count(&event);
     }
 
     #[inline(always)]
@@ -126,7 +133,7 @@ impl Hearer for HeardCounts {
     }
 
     #[inline(always)]
-    fn hear_itm(
+    fn give_itm(
         &mut self,
         _to: &mut (),
         _at: u64,
@@ -138,13 +145,13 @@ impl Hearer for HeardCounts {
     }
 
     #[inline(always)]
-    fn hear_said(&mut self, _to: &mut (), _at: u64, _half: u8, source: SourceId, _said: Said) {
+    fn give_said(&mut self, _to: &mut (), _at: u64, _half: u8, source: SourceId, _said: Said) {
         self.add_packet(Some(source));
     }
 
     #[inline(always)]
-    fn hear_raw(&mut self, _to: &mut (), _at: u64, _source: SourceId, _bytes: &[u8]) {}
+    fn give_raw(&mut self, _to: &mut (), _at: u64, _source: SourceId, _bytes: &[u8]) {}
 
     #[inline(always)]
-    fn hear_trigger(&mut self, _to: &mut (), _at: u64, _source: SourceId, _byte: u8) {}
+    fn give_trigger(&mut self, _to: &mut (), _at: u64, _source: SourceId, _byte: u8) {}
 }

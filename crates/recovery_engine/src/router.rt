@@ -19,7 +19,7 @@ use crate::slot::{RecoveringSlot, cut_all, take_own};
 use deformatter::PortStep;
 use frame_grammar::gather::PlacedFrame;
 use frame_runs::{CellRun, PlacedData, Run, SplitFrame};
-use recovering_machines::Hearer;
+use recovering_machines::Receiver;
 use source_events::{Event, What, run_length};
 use stretch_readings::Heard;
 use trace_values::{Cell, SourceId};
@@ -31,20 +31,20 @@ const NULL: u8 = 0;
 const TRIGGER: u8 = 125;
 
 /// Gives each byte of a run of the trigger source.
-fn give_triggers<R: Run, V: Hearer>(id: SourceId, run: &R, out: &mut V, to: &mut V::To)
+fn give_triggers<R: Run, V: Receiver>(id: SourceId, run: &R, out: &mut V, to: &mut V::To)
     requires room { 2 * length (R.cells run.now) ≤ V.room (out.old, to.old) }
     ensures given { V.gets (out.old, to.old) (told (Some id) (triggers (R.cells run.now))) (out.new, to.new) }
     ensures room { V.room (out.old, to.old) ≤ V.room (out.new, to.new) + 2 * length (R.cells run.now) }
 {
     for index in 0..run.len() {
         let cell = run.cell(index);
-        out.hear_trigger(to, cell.at, id, cell.byte);
+        out.give_trigger(to, cell.at, id, cell.byte);
     }
 }
 
 /// Gives a run of a source that is not mapped.
 #[inline(never)]
-fn give_raw<R: Run, V: Hearer>(id: SourceId, run: &R, out: &mut V, to: &mut V::To)
+fn give_raw<R: Run, V: Receiver>(id: SourceId, run: &R, out: &mut V, to: &mut V::To)
     requires some { 0 < length (R.cells run.now) }
     requires size { length (R.cells run.now) ≤ 15 }
     requires room { 2 * length (R.cells run.now) ≤ V.room (out.old, to.old) }
@@ -61,11 +61,11 @@ fn give_raw<R: Run, V: Hearer>(id: SourceId, run: &R, out: &mut V, to: &mut V::T
     }
     let count = run.len();
     let at = run.cell(count - 1).at;
-    out.hear_raw(to, at, id, &run.ahead()[..count]);
+    out.give_raw(to, at, id, &run.ahead()[..count]);
 }
 
 /// Takes a run of this source, or of none.
-pub fn take_run<R: Run, V: Hearer>(
+pub fn take_run<R: Run, V: Receiver>(
     slots: &mut [RecoveringSlot],
     source: &Option<SourceId>,
     run: &R,
@@ -90,7 +90,7 @@ pub fn take_run<R: Run, V: Hearer>(
 }
 
 /// Takes a whole frame, which comes after this ID, run by run.
-pub fn take_whole<V: Hearer>(
+pub fn take_whole<V: Receiver>(
     slots: &mut [RecoveringSlot],
     frame: &PlacedFrame,
     id: &Option<SourceId>,
@@ -115,7 +115,7 @@ pub fn take_whole<V: Hearer>(
 }
 
 /// Gives each byte of a source that is not mapped as a run of its own.
-fn give_each<R: Run, V: Hearer>(id: SourceId, run: &R, out: &mut V, to: &mut V::To)
+fn give_each<R: Run, V: Receiver>(id: SourceId, run: &R, out: &mut V, to: &mut V::To)
     requires room { 2 * length (R.cells run.now) ≤ V.room (out.old, to.old) }
     ensures given { V.gets (out.old, to.old) (raw_each id (R.cells run.now)) (out.new, to.new) }
     ensures room { V.room (out.old, to.old) ≤ V.room (out.new, to.new) + 2 * length (R.cells run.now) }
@@ -128,7 +128,7 @@ fn give_each<R: Run, V: Hearer>(id: SourceId, run: &R, out: &mut V, to: &mut V::
 }
 
 /// Takes bytes of one source, each of which is a run of its own.
-pub fn take_each<R: Run, V: Hearer>(
+pub fn take_each<R: Run, V: Receiver>(
     slots: &mut [RecoveringSlot],
     id: SourceId,
     run: &R,
@@ -150,7 +150,7 @@ pub fn take_each<R: Run, V: Hearer>(
 }
 
 /// Takes the cells of a frame, run by run.
-fn take_frame<V: Hearer>(slots: &mut [RecoveringSlot], cells: &[Cell], out: &mut V, to: &mut V::To)
+fn take_frame<V: Receiver>(slots: &mut [RecoveringSlot], cells: &[Cell], out: &mut V, to: &mut V::To)
     requires size { length cells.now ≤ 15 }
     requires few { total slots.old + 6 * length cells.now ≤ COUNT_ROOM }
     requires room { 2 * length cells.now ≤ V.room (out.old, to.old) }
@@ -171,7 +171,7 @@ fn take_frame<V: Hearer>(slots: &mut [RecoveringSlot], cells: &[Cell], out: &mut
 
 /// Takes what a step of the port at this offset ends: a frame of these cells, the bytes before a lock, or the lists of
 /// all sources.
-pub fn take_step<V: Hearer>(
+pub fn take_step<V: Receiver>(
     slots: &mut [RecoveringSlot],
     at: u64,
     step: PortStep,
@@ -198,7 +198,7 @@ pub fn take_step<V: Hearer>(
                 source: None,
                 what: What::Locked(skipped),
             };
-            out.hear(to, event);
+            out.give(to, event);
         }
         PortStep::Fault(fault) => {
             let event = Event {
@@ -207,7 +207,7 @@ pub fn take_step<V: Hearer>(
                 source: None,
                 what: What::Packet(Heard::Broken(fault.reason)),
             };
-            out.hear(to, event);
+            out.give(to, event);
             cut_all(slots);
         }
     }

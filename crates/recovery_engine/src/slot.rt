@@ -11,7 +11,7 @@ ghost use Rattle.recovery_engine.specs.Taking.{AreCut, TakesOwn};
 
 use arrayvec::ArrayVec;
 use frame_runs::Run;
-use recovering_machines::{Hearer, MappedSource};
+use recovering_machines::{Receiver, MappedSource};
 use source_events::{MAPPED_SOURCES, Plan, SourceKind};
 use stp_grammar::packet::Order;
 use trace_values::{PacketsMode, SourceId};
@@ -76,7 +76,7 @@ fn add_slots(slots: &mut Slots, kind: SourceKind, ids: &[SourceId], plan: &Plan,
 }
 
 /// Takes a run of the source of this ID, and gives its events. False where there is no such source.
-pub fn take_own<R: Run, V: Hearer>(
+pub fn take_own<R: Run, V: Receiver>(
     slots: &mut [RecoveringSlot],
     id: SourceId,
     run: &R,

@@ -13,7 +13,8 @@ use Rattle.capture_actions.specs.declared.list_plan.ListPlan.{ListPlan}
 use Rattle.capture_actions.specs.Filtered.{unfiltered, all_lines, listed_lines}
 use Rattle.capture_actions.specs.Listing.{is_listed}
 use Rattle.recovery_listing.specs.Filtered.{has_line, marked, marked_lines}
-use Rattle.recovery_listing.specs.Listing.{line_of, lines_after, listed, seen_in}
+use Rattle.recovery_listing.specs.Listing.{line_of, lines_after, listed}
+use Rattle.recovering_machines.specs.Hearing.{seen_in}
 
 all_so : (p : ListPlan) (before es : List (Event (Heard Packet))) →
     lines_after (unfiltered p) before es ≡ all_lines (marked_lines p before es)

@@ -29,7 +29,8 @@ use Rattle.source_merge.specs.Answering.{fault_of}
 use Rattle.trace_text.specs.EndText.{tails_text}
 use Rattle.capture_actions.specs.declared.list_plan.ListPlan.{ListPlan}
 use Rattle.capture_actions.specs.Listing as strict
-use Rattle.recovery_listing.specs.Listing.{clocked_by, clocked_from, ending, line_of, lines_after, seen_by, seen_in}
+use Rattle.recovery_listing.specs.Listing.{clocked_by, clocked_from, ending, line_of, lines_after}
+use Rattle.recovering_machines.specs.Hearing.{seen_by, seen_in}
 use Rattle.recovery_listing.specs.Near.{listed_with, near_lines_after}
 use Rattle.recovery_listing.proofs.Unguessed.{plain_listed}
 

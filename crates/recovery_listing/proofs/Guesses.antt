@@ -21,7 +21,8 @@ use Rattle.trace_text.specs.LineText.{doubted, event_line}
 use Rattle.capture_actions.specs.Guesses.{is_open}
 use Rattle.capture_actions.specs.Listing.{is_listed, itm_packets, meets, remark_of}
 use Rattle.recovery_listing.specs.LineLaws.{sure_push}
-use Rattle.recovery_listing.specs.Listing.{clocked_from, line_of, lines_after, listed, seen_in}
+use Rattle.recovery_listing.specs.Listing.{clocked_from, line_of, lines_after, listed}
+use Rattle.recovering_machines.specs.Hearing.{seen_in}
 use Rattle.recovery_listing.specs.Marked.{entry, is_marked, near_entries, near_marked, without_guesses}
 use Rattle.recovery_listing.specs.Near.{guess_clocked, guess_line, near_line, near_lines_after}
 use Rattle.recovery_listing.specs.Near.{near_listed}

@@ -6,6 +6,6 @@ pub mod Guesses
 pub mod Unguessed
 pub mod Plain
 pub mod Noted
-pub mod Kinded
+pub mod Paid
 pub mod Items
 pub mod Faultless

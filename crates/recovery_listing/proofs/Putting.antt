@@ -27,7 +27,8 @@ use Rattle.capture_actions.specs.Listing.{line_by}
 use Rattle.capture_actions.specs.SourceClocks.{AllStand, without}
 use Rattle.recovery_listing.specs.LineLaws.{clocked_append, fault_push, guess_clocked_append, seen_push, sure_push}
 use Rattle.recovery_listing.specs.Lister.{ListerGets, Stands, plan_of}
-use Rattle.recovery_listing.specs.Listing.{clocked_by, clocked_from, has_fault, is_err, line_of, seen_by, seen_in}
+use Rattle.recovery_listing.specs.Listing.{clocked_by, clocked_from, has_fault, is_err, line_of}
+use Rattle.recovering_machines.specs.Hearing.{seen_by, seen_in}
 use Rattle.recovery_listing.specs.Near.{guess_clocked, guess_clocked_by, guess_line, near_line}
 use Rattle.recovery_listing.specs.declared.lister.RecoveringLister.{RecoveringLister}
 

@@ -11,7 +11,8 @@ use Rattle.recovery_report.specs.Report.{report}
 use Rattle.capture_actions.specs.declared.list_plan.ListPlan.{ListPlan}
 use Rattle.capture_actions.specs.Filtered.{unfiltered}
 use Rattle.capture_actions.specs.Listing.{is_listed}
-use Rattle.recovery_listing.specs.Listing.{line_of, seen_in}
+use Rattle.recovery_listing.specs.Listing.{line_of}
+use Rattle.recovering_machines.specs.Hearing.{seen_in}
 
 -- whether an event after others has a line; a fault always has
 abbrev pub has_line : ListPlan → List (Event (Heard Packet)) → Event (Heard Packet) → Result (What Packet) Reason → Bool

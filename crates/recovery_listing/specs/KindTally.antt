@@ -12,7 +12,7 @@ use Rattle.capture_actions.specs.KindLines.{owed}
 use Rattle.recovery_engine.specs.Heard.{HasHeard}
 use Rattle.recovery_listing.specs.Account.{Pages, events_of}
 use Rattle.recovery_listing.specs.HeardKinds.{HeardKindsGets}
-use Rattle.recovery_listing.specs.Listing.{seen_in}
+use Rattle.recovering_machines.specs.Hearing.{seen_in}
 use Rattle.recovery_listing.specs.Recovering as action
 use Rattle.recovery_listing.specs.Recovering.{how_of}
 use Rattle.recovery_listing.specs.declared.going_on.GoingOn.{GoingOn}

@@ -9,7 +9,8 @@ use Rattle.recovery_engine.specs.Heard.{HasHeard}
 use Rattle.recovery_listing.specs.Account.{GoesOn, Pages, events_of}
 use Rattle.recovery_listing.specs.KindTally.{HasSorted, asked, gets}
 use Rattle.recovery_listing.specs.Kinds.{kinds_meaning_on, kinds_summary}
-use Rattle.recovery_listing.specs.Listing.{seen_in}
+use Rattle.recovering_machines.specs.Hearing.{seen_in}
+use Rattle.recovering_machines.specs.HearingLaws.{seen_append}
 use Rattle.recovery_listing.specs.MeaningLaws.{end_goes_on}
 use Rattle.recovery_listing.specs.declared.going_on.GoingOn.{GoingOn}
 use Rattle.recovery_listing.specs.declared.kinds.KindTally.{KindTally}
@@ -29,5 +30,6 @@ goes_on old new given how seen front g some silent more h =
       heard = subst (λ (es : List (Event (Heard Packet))). HasHeard new.0.counts.heard es) (sym more)
           (g.counts.heard (events_of how seen) h.heard);
       kinds = subst (λ (es : List (Event (Heard Packet))). HasCounted new.0.counts.kinds (seen_in es)) (sym more)
-          (g.counts.kinds (events_of how seen) h.kinds);
+          (subst (λ (es : List (Event Packet)). HasCounted new.0.counts.kinds es)
+          (sym (seen_append (events_of how seen) given)) (g.counts.kinds (seen_in (events_of how seen)) h.kinds));
     })

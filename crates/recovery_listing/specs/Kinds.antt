@@ -9,7 +9,7 @@ use Rattle.trace_stream.specs.Served.{Meaning}
 use Rattle.trace_text.specs.CountText.{faults_line, port_counts_text}
 use Rattle.trace_text.specs.EndText.{tails_text}
 use Rattle.capture_actions.specs.Kinds.{all_lines}
-use Rattle.recovery_listing.specs.Listing.{seen_in}
+use Rattle.recovering_machines.specs.Hearing.{seen_in}
 use Rattle.recovery_listing.specs.Summary.{at_end}
 
 -- the summary: how many faults there are, the counts of the port and of all sources with the kinds of the items that

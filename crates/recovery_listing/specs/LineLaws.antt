@@ -11,7 +11,8 @@ use Rattle.stretch_readings.specs.declared.heard.Heard.{Heard}
 use Rattle.recovering_machines.specs.Hearing.{as_strict, is_guess}
 use Rattle.recovery_report.specs.Report.{sure_events}
 use Rattle.capture_actions.specs.declared.list_plan.ListPlan.{ListPlan}
-use Rattle.recovery_listing.specs.Listing.{clocked_by, clocked_from, has_fault, is_err, seen_by, seen_in}
+use Rattle.recovery_listing.specs.Listing.{clocked_by, clocked_from, has_fault, is_err}
+use Rattle.recovering_machines.specs.Hearing.{seen_by, seen_in}
 use Rattle.recovery_listing.specs.Near.{guess_clocked_by, guess_clocked_from, near_line, near_lines_after}
 
 pub clocked_append : (clocked : List (Event Packet)) (xs ys : List (Event (Heard Packet))) →

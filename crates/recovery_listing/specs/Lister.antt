@@ -9,7 +9,8 @@ use Rattle.capture_actions.specs.declared.list_plan.ListPlan.{ListPlan}
 use Rattle.capture_actions.specs.Filter.{plan_by, HasSeen}
 use Rattle.capture_actions.specs.Lister as strict
 use Rattle.capture_actions.specs.SourceClocks.{AllStand}
-use Rattle.recovery_listing.specs.Listing.{clocked_from, has_fault, seen_in}
+use Rattle.recovery_listing.specs.Listing.{clocked_from, has_fault}
+use Rattle.recovering_machines.specs.Hearing.{seen_in}
 use Rattle.recovery_listing.specs.Near.{guess_clocked, near_lines_after}
 use Rattle.recovery_listing.specs.declared.lister.RecoveringLister.{RecoveringLister}
 

@@ -1,5 +1,5 @@
 -- What `show` writes of a recovering report: the lines of its events, the faults among them, and the end lines.
-use Rattle.std.specs.Prelude.{ℕ, List, [], ◌∷◌, ◌++◌, flat_map, Result, Ok, Err, Bool, true, false}
+use Rattle.std.specs.Prelude.{ℕ, List, [], ◌∷◌, ◌++◌, Result, Ok, Err, Bool, true, false}
 use Rattle.std.specs.List.{list_any}
 use Rattle.trace_values.specs.declared.fault.Reason.{Reason}
 use Rattle.trace_values.specs.Placed.{placed}
@@ -9,7 +9,7 @@ use Rattle.source_events.specs.declared.packet.Packet.{Packet}
 use Rattle.source_events.specs.declared.plan.Plan.{Plan}
 use Rattle.source_events.specs.Merge.{place_of}
 use Rattle.stretch_readings.specs.declared.heard.Heard.{Heard}
-use Rattle.recovering_machines.specs.Hearing.{as_event, as_strict}
+use Rattle.recovering_machines.specs.Hearing.{as_event, as_strict, seen_in}
 use Rattle.recovery_report.specs.Report.{report, tails_of}
 use Rattle.trace_text.specs.EndText.{tails_text}
 use Rattle.trace_text.specs.FaultText.{fault_line}
@@ -28,14 +28,6 @@ abbrev pub clocked_from : List (Event Packet) → List (Event (Heard Packet)) �
 clocked_from clocked [] = clocked
 clocked_from clocked (e ∷ es) = clocked_from (clocked_by clocked e (as_strict e.what)) es
 
--- the events that a window sees: it does not see faults
-abbrev pub seen_by : Event (Heard Packet) → Result (What Packet) Reason → List (Event Packet)
-seen_by e (Ok what) = as_event e what ∷ []
-seen_by e (Err reason) = []
-
-abbrev pub seen_in : List (Event (Heard Packet)) → List (Event Packet)
-seen_in es = flat_map (λ e. seen_by e (as_strict e.what)) es
-
 -- there is a fault among these events, or in the report of these bytes
 abbrev pub is_err : Result (What Packet) Reason → Bool
 is_err (Ok what) = false
@@ -47,7 +39,8 @@ has_fault es = list_any (λ e. is_err (as_strict e.what)) es
 abbrev pub is_faulty : Plan → List ℕ → Bool
 is_faulty plan bytes = has_fault (report plan (placed bytes))
 
--- the line of an event after those before it; none where it is not listed, and a fault always is
+-- The line of an event after those before it; none where it is not listed, and a fault always is. A window sees no
+-- faults.
 abbrev pub line_of : ListPlan → List (Event (Heard Packet)) → Event (Heard Packet) → Result (What Packet) Reason →
     List ℕ
 line_of p before e (Ok what) = line_by p (clocked_from [] before) (seen_in before) (as_event e what)

@@ -18,7 +18,8 @@ use Rattle.capture_actions.specs.declared.list_plan.ListPlan.{ListPlan}
 use Rattle.capture_actions.specs.Faulty.{is_stp}
 use Rattle.capture_actions.specs.Guesses.{guess_by}
 use Rattle.capture_actions.specs.SourceClocks.{without}
-use Rattle.recovery_listing.specs.Listing.{ending, line_of, seen_in}
+use Rattle.recovery_listing.specs.Listing.{ending, line_of}
+use Rattle.recovering_machines.specs.Hearing.{seen_in}
 use Rattle.recovery_listing.specs.declared.going_on.GoingOn.{GoingOn}
 
 -- The events that the clocks of guesses have taken, with one more: each item, sure or guessed. Over a fault they go on,

@@ -7,7 +7,7 @@ use Rattle.trace_stream.specs.Served.{Meaning}
 use Rattle.capture_actions.specs.PortText.{source_of, values_in}
 use Rattle.capture_actions.specs.declared.port_text_plan.PortTextPlan.{PortTextPlan}
 use Rattle.recovery_listing.specs.FaultLines.{noted_faults}
-use Rattle.recovery_listing.specs.Listing.{seen_in}
+use Rattle.recovering_machines.specs.Hearing.{seen_in}
 use Rattle.recovery_listing.specs.declared.going_on.GoingOn.{GoingOn}
 
 -- the values in the report of a capture, and what is noted of it

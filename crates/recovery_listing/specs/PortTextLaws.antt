@@ -13,6 +13,7 @@ use Rattle.source_events.specs.declared.plan.Plan.{Plan}
 use Rattle.source_events.specs.Merge.{is_of, place_of}
 use Rattle.stretch_readings.specs.declared.heard.Heard.{Heard}
 use Rattle.recovering_machines.specs.Hearing.{as_strict}
+use Rattle.recovering_machines.specs.HearingLaws.{seen_append}
 use Rattle.recovery_report.specs.Report.{report_with}
 use Rattle.recovery_engine.proofs.Growing.{nothing_first, report_grows}
 use Rattle.trace_stream.specs.Served.{IsLawful}
@@ -20,14 +21,11 @@ use Rattle.capture_actions.specs.PortText.{source_of, value_of, values_in}
 use Rattle.capture_actions.specs.PortTextLaws.{values_append}
 use Rattle.capture_actions.specs.declared.port_text_plan.PortTextPlan.{PortTextPlan}
 use Rattle.recovery_listing.specs.FaultLines.{fault_lines, noted_faults}
-use Rattle.recovery_listing.specs.Listing.{seen_by, seen_in}
+use Rattle.recovering_machines.specs.Hearing.{seen_by, seen_in}
 use Rattle.recovery_listing.specs.Noting.{given_by, given_of, is_misread, loser_of, loss_at, with_losses}
 use Rattle.recovery_listing.specs.NotingLaws.{not_misread}
 use Rattle.recovery_listing.specs.PortText.{port_text_meaning}
 use Rattle.recovery_listing.specs.declared.going_on.GoingOn.{GoingOn}
-
-pub seen_append : (xs ys : List (Event (Heard Packet))) → seen_in (xs ++ ys) ≡ seen_in xs ++ seen_in ys
-seen_append xs ys = flat_map-append (λ (e : Event (Heard Packet)). seen_by e (as_strict e.what)) xs ys
 
 pub values_more : (source : Option ℕ) (port : ℕ) (xs ys : List (Event (Heard Packet))) →
     values_in source port (seen_in (xs ++ ys))

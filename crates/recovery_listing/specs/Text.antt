@@ -4,6 +4,7 @@ use Rattle.source_events.specs.declared.event.Event.{Event}
 use Rattle.source_events.specs.declared.packet.Packet.{Packet}
 use Rattle.source_events.specs.declared.plan.Plan.{Plan}
 use Rattle.stretch_readings.specs.declared.heard.Heard.{Heard}
+use Rattle.recovering_machines.specs.Hearing.{takes_read, takes_seen}
 use Rattle.capture_actions.specs.PortText.{source_of}
 use Rattle.capture_actions.specs.PortValues as strict
 use Rattle.capture_actions.specs.declared.port_text_plan.PortTextPlan.{PortTextPlan}
@@ -27,7 +28,7 @@ pub record HasPut (noting : Noting PortValues) (how : GoingOn Plan) (seen : List
   pub faulty : noting.is_faulty ≡ is_faulty how.plan seen
 
 abbrev pub gets : Noting PortValues × Pages → List (Event (Heard Packet)) → Noting PortValues × Pages → Type 0
-gets old es new = NotesGets strict.gets old es new
+gets old es new = NotesGets (takes_read (takes_seen strict.gets)) old es new
 
 -- no line is to be noted
 abbrev pub IsSilent : Noting PortValues → ℕ → Type 0

@@ -9,6 +9,7 @@ use Rattle.value_dump.specs.Dumping as dumping
 use Rattle.value_dump.specs.Header.{header}
 use Rattle.value_dump.specs.SourceDump as strict
 use Rattle.value_dump.specs.declared.vcd_plan.VcdPlan.{VcdPlan}
+use Rattle.recovering_machines.specs.Hearing.{takes_read, takes_seen}
 use Rattle.recovery_listing.specs.Account.{Pages, events_of}
 use Rattle.recovery_listing.specs.Dump.{packets_in}
 use Rattle.recovery_listing.specs.Listing.{is_faulty}
@@ -49,7 +50,7 @@ begun_with old = record {
 -- the lines of these events were put, and the lines of the faults among them noted, where nothing was
 pub record DumpGets (old : RecoveringDump × Pages) (es : List (Event (Heard Packet))) (new : RecoveringDump × Pages)
     : Type 0 where
-  pub noting : NotesGets strict.gets (old.0.noting, begun_with old) es (new.0.noting, new.1)
+  pub noting : NotesGets (takes_read (takes_seen strict.gets)) (old.0.noting, begun_with old) es (new.0.noting, new.1)
   pub begun : new.0.is_begun ≡ true
 
 abbrev pub gets : RecoveringDump × Pages → List (Event (Heard Packet)) → RecoveringDump × Pages → Type 0

@@ -13,8 +13,10 @@ use Rattle.capture_actions.specs.PortText.{source_of}
 use Rattle.value_dump.specs.Dump.{lines_after}
 use Rattle.value_dump.specs.Dumping as dumping
 use Rattle.value_dump.specs.Header.{header}
+use Rattle.value_dump.specs.SourceDump as strict
 use Rattle.value_dump.specs.Vcd.{beginning}
 use Rattle.value_dump.specs.declared.vcd_plan.VcdPlan.{VcdPlan}
+use Rattle.recovering_machines.specs.HearingLaws.{took_read}
 use Rattle.recovery_listing.specs.Account.{GoesOn, Pages, events_of}
 use Rattle.recovery_listing.specs.Dump.{dump_meaning, noted_dump, packets_in}
 use Rattle.recovery_listing.specs.DumpLaws.{dump_grows, packets_more}
@@ -22,7 +24,7 @@ use Rattle.recovery_listing.specs.FaultLines.{noted_faults}
 use Rattle.recovery_listing.specs.Listing.{has_fault}
 use Rattle.recovery_listing.specs.Noting.{with_losses}
 use Rattle.recovery_listing.specs.SureLaws.{faulty_more, noted_more}
-use Rattle.recovery_listing.specs.Vcd.{HasDumped, asked, gets, is_begun}
+use Rattle.recovery_listing.specs.Vcd.{HasDumped, asked, begun_with, gets, is_begun}
 use Rattle.recovery_listing.specs.declared.going_on.GoingOn.{GoingOn}
 use Rattle.recovery_listing.specs.declared.vcd.RecoveringDump.{RecoveringDump}
 
@@ -30,9 +32,16 @@ use Rattle.recovery_listing.specs.declared.vcd.RecoveringDump.{RecoveringDump}
 abbrev by_clock : GoingOn Plan → Option ℕ → GoingOn VcdPlan
 by_clock how hz = record { plan = record { plan = how.plan; hz = hz }; guesses = how.guesses }
 
+put : (old new : RecoveringDump × Pages) (given : List (Event (Heard Packet))) → gets old given new →
+    strict.gets (old.0.noting.receiver, (begun_with old).text) (with_losses old.0.noting.source given)
+    (new.0.noting.receiver, new.1.text)
+put old new given g =
+    took_read strict.gets (old.0.noting.receiver, (begun_with old).text) (new.0.noting.receiver, new.1.text)
+    (with_losses old.0.noting.source given) g.noting.receiver
+
 pub same : (old new : RecoveringDump × Pages) (given : List (Event (Heard Packet))) (how : GoingOn Plan) →
     gets old given new → asked new.0 how ≡ asked old.0 how
-same old new given how g = ap (by_clock how) g.noting.receiver.hz
+same old new given how g = ap (by_clock how) (put old new given g).hz
 
 -- the header is put where no byte was read
 head_is : (p : VcdPlan) (seen : List ℕ) (b : Bool) → b ≡ is_begun seen →
@@ -71,9 +80,9 @@ module _ (old new : RecoveringDump × Pages) (given : List (Event (Heard Packet)
   read : HasDumped new.0 how (seen ++ front)
   read = record {
     source = g.noting.same ∙ h.source;
-    own = g.noting.receiver.source ∙ h.own;
+    own = (put old new given g).source ∙ h.own;
     dump = subst (λ (l : List ItmPacket). dumping.Stands new.0.noting.receiver.dump l) packets_are
-        (g.noting.receiver.stands before h.dump);
+        ((put old new given g).stands before h.dump);
     begun = g.begun ∙ sym (some_begun seen front some);
     faulty = g.noting.faulty ∙ ap (λ (f : Bool). f || has_fault (sure_events given)) h.faulty
         ∙ sym (faulty_more how seen front given more);
@@ -88,7 +97,7 @@ module _ (old new : RecoveringDump × Pages) (given : List (Event (Heard Packet)
         read = read;
         more = start ++ lines_after hz before (packets_in source given);
         grown = dump_grows p seen front given some more;
-        gained = g.noting.receiver.text before h.dump
+        gained = (put old new given g).text before h.dump
             ∙ ap (λ (l : List ItmPacket).
             (old.1.text ++ (if old.0.is_begun then [] else header hz)) ++ lines_after hz before l) own_is
             ∙ ap (λ (l : List ℕ). (old.1.text ++ l) ++ lines_after hz before (packets_in source given))

@@ -13,7 +13,8 @@ ghost use Rattle.capture_actions.specs.declared.port_text_plan.PortTextPlan.{Por
 ghost use Rattle.capture_actions.specs.declared.list_plan.ListPlan.{ListPlan};
 ghost use Rattle.capture_actions.specs.Filtered.{unfiltered, all_lines, listed_lines};
 ghost use Rattle.recovery_listing.specs.Filtered.{marked};
-ghost use Rattle.recovery_listing.specs.Listing.{ending, listed, seen_in};
+ghost use Rattle.recovery_listing.specs.Listing.{ending, listed};
+ghost use Rattle.recovering_machines.specs.Hearing.{seen_in};
 ghost use Rattle.recovery_listing.specs.Marked.{is_marked, near_marked, without_guesses};
 ghost use Rattle.recovery_listing.specs.Near.{listed_with, near_listed};
 ghost use Rattle.recovery_listing.specs.PortText.{port_text};

@@ -14,13 +14,12 @@ ghost use Rattle.recovery_listing.specs.Near.{guess_clocked_by};
 use capture_actions::{Lister, SourceClocks};
 use item_tap::{Bounds, Choices};
 use itm_grammar::packet::ItmPacket;
-use recovering_machines::Hearer;
+use recovering_machines::{Receiver, strictly};
 use source_events::{Event, Packet, Plan, SourceKind, Stop, What};
-use source_merge::Receiver;
 use stp_grammar::said::Said;
 use stretch_readings::Heard;
 use trace_stream::Outlet;
-use trace_values::{Fault, Reason, SourceId};
+use trace_values::{Fault, SourceId};
 
 /// Puts the lines of events that are listed, and of all faults; those of guesses with their mark.
 #[derive(Drop)]
@@ -37,21 +36,6 @@ fn is_guess(what: &What<Heard<Packet>>) -> bool
     ensures { result ≡ is_guess what.now }
 {
     matches!(what, What::Packet(Heard::Guessed(_) | Heard::Misread(_)))
-}
-
-/// What an event is in a strict report, or the reason of its fault.
-pub(crate) fn strictly(what: What<Heard<Packet>>) -> Result<What<Packet>, Reason>
-    ensures { result ≡ as_strict what }
-{
-    match what {
-        What::Locked(skipped) => Ok(What::Locked(skipped)),
-        What::Packet(Heard::Read(packet)) | What::Packet(Heard::Guessed(packet)) => {
-            Ok(What::Packet(packet))
-        }
-        What::Packet(Heard::Broken(reason)) | What::Packet(Heard::Misread(reason)) => Err(reason),
-        What::Raw(bytes) => Ok(What::Raw(bytes)),
-        What::Trigger(byte) => Ok(What::Trigger(byte)),
-    }
 }
 
 /// It is the notice of a lock, and no item.
@@ -105,7 +89,7 @@ impl RecoveringLister {
 
 /// An event goes to the outlet as its line, if it is listed. Neither the choices nor the window are asked of a fault,
 /// and the window does not see a guess.
-impl Hearer for RecoveringLister {
+impl Receiver for RecoveringLister {
     ghost use Rattle.recovery_listing.specs.Lister.{Lists, gets, room};
     ghost use Rattle.recovery_listing.specs.ListerLaws.{adds_up, lists_on};
 
@@ -121,7 +105,7 @@ impl Hearer for RecoveringLister {
 
     ghost takes_on = { lists_on };
 
-    fn hear(&mut self, outlet: &mut Outlet, event: Event<Heard<Packet>>) {
+    fn give(&mut self, outlet: &mut Outlet, event: Event<Heard<Packet>>) {
         let (at, half, source) = (event.at, event.half, event.source);
         let guess = is_guess(&event.what);
         match strictly(event.what) {
@@ -137,7 +121,7 @@ impl Hearer for RecoveringLister {
                         .put_guess(outlet, &mut self.guess_clocks, &event);
                 } else {
                     take_sure(&mut self.guess_clocks, &event);
-                    self.lister.give(outlet, event);
+                    self.lister.put_seldom(outlet, event);
                 }
             }
             Err(reason) => {
@@ -164,7 +148,7 @@ impl Hearer for RecoveringLister {
     }
 
     #[inline(always)]
-    fn hear_itm(
+    fn give_itm(
         &mut self,
         outlet: &mut Outlet,
         at: u64,
@@ -177,19 +161,19 @@ impl Hearer for RecoveringLister {
     }
 
     #[inline(always)]
-    fn hear_said(&mut self, outlet: &mut Outlet, at: u64, half: u8, source: SourceId, said: Said) {
+    fn give_said(&mut self, outlet: &mut Outlet, at: u64, half: u8, source: SourceId, said: Said) {
         self.guess_clocks.pass();
         self.lister.give_said(outlet, at, half, source, said);
     }
 
     #[inline(always)]
-    fn hear_raw(&mut self, outlet: &mut Outlet, at: u64, source: SourceId, bytes: &[u8]) {
+    fn give_raw(&mut self, outlet: &mut Outlet, at: u64, source: SourceId, bytes: &[u8]) {
         self.guess_clocks.pass();
         self.lister.give_raw(outlet, at, source, bytes);
     }
 
     #[inline(always)]
-    fn hear_trigger(&mut self, outlet: &mut Outlet, at: u64, source: SourceId, byte: u8) {
+    fn give_trigger(&mut self, outlet: &mut Outlet, at: u64, source: SourceId, byte: u8) {
         self.guess_clocks.pass();
         self.lister.give_trigger(outlet, at, source, byte);
     }

@@ -5,15 +5,14 @@ ghost use Rattle.trace_io.specs.Bytes.{TakesSome};
 ghost use Rattle.trace_stream.specs.declared.limits.TheConstants.{GREATEST_CAPTURE};
 ghost use Rattle.recovery_engine.specs.Engine.{next_of};
 ghost use Rattle.capture_actions.specs.PortText.{source_of};
+ghost use Rattle.recovering_machines.specs.Hearing.{takes_read};
 ghost use Rattle.recovery_listing.specs.Account.{TakesOn};
 ghost use Rattle.recovery_listing.specs.Noting.{NotesGets, is_misread, loser_of};
 
-use crate::lister::strictly;
 use itm_grammar::packet::ItmPacket;
-use recovering_machines::Hearer;
+use recovering_machines::{Receiver, as_read, strictly};
 use recovery_engine::Recovery;
 use source_events::{Event, Packet, Plan, SourceKind, Stop, What};
-use source_merge::Receiver;
 use stp_grammar::said::Said;
 use stretch_readings::Heard;
 use trace_stream::{OUTLET_ROOM, Outlet, TEXT_ROOM};
@@ -69,7 +68,7 @@ impl<R: Receiver<To = Outlet>> Noting<R> {
     fn pass_fault(&mut self, outlet: &mut Outlet, stop: &Stop)
         requires room { 0 < room R.room (self.old, outlet.old) }
         ensures same { self.new.source ≡ self.old.source }
-        ensures lost { R.gets (self.old.receiver, outlet.old)
+        ensures lost { (takes_read R.gets) (self.old.receiver, outlet.old)
             (loss_at (stop_of stop.now).0 (loser_of self.old.source stop.now.source))
             (self.new.receiver, outlet.new) }
         ensures line { self.new.lines ≡ self.old.lines ++ fault_line false (stop_of stop.now) }
@@ -85,7 +84,7 @@ impl<R: Receiver<To = Outlet>> Noting<R> {
                 source: Some(id),
                 what: What::Packet(Packet::Itm(ItmPacket::Overflow)),
             };
-            self.receiver.give(outlet, loss);
+            self.receiver.give(outlet, as_read(loss));
         }
     }
 
@@ -105,7 +104,7 @@ impl<R: Receiver<To = Outlet>> Noting<R> {
         requires count { next_of engine.old + length piece.now ≤ GREATEST_CAPTURE }
         ensures front { TakesSome piece.now result }
         ensures live { self.new.lines ≡ [] }
-        ensures on { TakesOn (NotesGets R.gets) (take result piece.now)
+        ensures on { TakesOn (NotesGets (takes_read R.gets)) (take result piece.now)
             (engine.old, (self.old, record { text = outlet.old; notes = notes.old }))
             (engine.new, (self.new, record { text = outlet.new; notes = notes.new })) }
     {
@@ -117,23 +116,27 @@ impl<R: Receiver<To = Outlet>> Noting<R> {
 }
 
 /// Each event goes to the receiver, and at a fault the loss in its place.
-impl<R: Receiver<To = Outlet>> Hearer for Noting<R> {
+impl<R: Receiver<To = Outlet>> Receiver for Noting<R> {
+    ghost use Rattle.std.specs.Prelude.{map};
+    ghost use Rattle.recovering_machines.specs.Hearing.{as_read};
+    ghost use Rattle.recovering_machines.specs.HearingLaws.{read_adds_up};
     ghost use Rattle.recovery_listing.specs.Noting.{NotingGets, room};
     ghost use Rattle.recovery_listing.specs.NotingLaws.{adds_up, takes_on};
 
     type To = Outlet;
 
-    ghost gets = { λ old es new. NotingGets R.gets old es new };
+    ghost gets = { λ old es new. NotingGets (takes_read R.gets) old es new };
 
     ghost room = { λ s. room R.room s };
 
     ghost takes = { λ noting source kind. R.takes noting.receiver source kind };
 
-    ghost adds_up = { adds_up R.gets R.adds_up };
+    ghost adds_up = { adds_up (takes_read R.gets) (read_adds_up R.gets R.adds_up) };
 
-    ghost takes_on = { takes_on R.gets R.takes R.takes_on };
+    ghost takes_on = { λ a b es source kind g t. takes_on (takes_read R.gets) R.takes
+        (λ x y fs s k h u. R.takes_on x y (map as_read fs) s k h u) a b es source kind g t };
 
-    fn hear(&mut self, outlet: &mut Outlet, event: Event<Heard<Packet>>) {
+    fn give(&mut self, outlet: &mut Outlet, event: Event<Heard<Packet>>) {
         let (at, half, source) = (event.at, event.half, event.source);
         let is_misread = is_misread(&event.what);
         match strictly(event.what) {
@@ -144,7 +147,7 @@ impl<R: Receiver<To = Outlet>> Hearer for Noting<R> {
                     source,
                     what,
                 };
-                self.receiver.give(outlet, event);
+                self.receiver.give(outlet, as_read(event));
             }
             Err(reason) => {
                 if !is_misread {
@@ -168,7 +171,7 @@ impl<R: Receiver<To = Outlet>> Hearer for Noting<R> {
     }
 
     #[inline(always)]
-    fn hear_itm(
+    fn give_itm(
         &mut self,
         outlet: &mut Outlet,
         at: u64,
@@ -180,17 +183,17 @@ impl<R: Receiver<To = Outlet>> Hearer for Noting<R> {
     }
 
     #[inline(always)]
-    fn hear_said(&mut self, outlet: &mut Outlet, at: u64, half: u8, source: SourceId, said: Said) {
+    fn give_said(&mut self, outlet: &mut Outlet, at: u64, half: u8, source: SourceId, said: Said) {
         self.receiver.give_said(outlet, at, half, source, said);
     }
 
     #[inline(always)]
-    fn hear_raw(&mut self, outlet: &mut Outlet, at: u64, source: SourceId, bytes: &[u8]) {
+    fn give_raw(&mut self, outlet: &mut Outlet, at: u64, source: SourceId, bytes: &[u8]) {
         self.receiver.give_raw(outlet, at, source, bytes);
     }
 
     #[inline(always)]
-    fn hear_trigger(&mut self, outlet: &mut Outlet, at: u64, source: SourceId, byte: u8) {
+    fn give_trigger(&mut self, outlet: &mut Outlet, at: u64, source: SourceId, byte: u8) {
         self.receiver.give_trigger(outlet, at, source, byte);
     }
 }

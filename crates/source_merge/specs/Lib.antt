@@ -2,8 +2,6 @@ pub mod Giving
 pub mod Answering
 pub mod Counting
 pub mod Hearing
-pub mod Receiver
-pub mod ReceiverLaws
 pub mod UpTo
 pub mod UpToLaws
 pub mod Engine

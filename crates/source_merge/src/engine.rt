@@ -10,8 +10,8 @@ ghost use Rattle.recovery_engine.specs.declared.engine.TheConstants.{GREATEST_OF
 
 use crate::flow::{Fed, Flow, flow_of};
 use crate::hearing::{hear_front, maps_none, read_of};
-use crate::receiver::{Events, Receiver};
 use frame_runs::bare_source;
+use recovering_machines::{Events, Receiver};
 use recovery_engine::{PerSource, Recovery};
 use source_counts::Counts;
 use source_events::{Plan, PortCounts, Stop, Tails};
@@ -49,6 +49,7 @@ impl Engine {
     ghost use Rattle.source_events.specs.Tails.{port_counts_of, source_counts_of, tails_of};
     ghost use Rattle.source_merge.specs.Answering.{Answers, fault_of, flow_to};
     ghost use Rattle.source_merge.specs.Counting.{maps_none};
+    ghost use Rattle.recovering_machines.specs.Hearing.{takes_read};
     ghost use Rattle.source_merge.specs.Giving.{GivesTo};
     ghost use Rattle.recovery_engine.specs.PerSource.{number_of};
     ghost use Rattle.source_merge.specs.declared.flow.Flow.TheVariants.{Going};
@@ -168,7 +169,7 @@ impl Engine {
         requires offsets { (next_of self.old ≤ at) × (at + length piece.now ≤ GREATEST_OFFSET + 1) }
         ensures takes { TakesFront self.old self.new at piece.now (fed result stop.new) }
         ensures space { V.room (out.old, to.old) ≤ V.room (out.new, to.new) + 30 }
-        ensures fed { GivesTo V.gets (out.old, to.old) (out.new, to.new)
+        ensures fed { GivesTo (takes_read V.gets) (out.old, to.old) (out.new, to.new)
             (GivesLast self.old at (take result piece.now) (flow_to stop.new)) }
     {
         match self.recovery.plan().frames {
@@ -201,7 +202,7 @@ impl Engine {
         ensures takes { TakesFront self.old self.new at piece.now (fed result stop.new) }
         ensures space { V.room (out.old, to.old) ≤ V.room (out.new, to.new)
             + most_of (plan_of self.old).frames (length piece.now) }
-        ensures reads { GivesTo V.gets (out.old, to.old) (out.new, to.new)
+        ensures reads { GivesTo (takes_read V.gets) (out.old, to.old) (out.new, to.new)
             (ReadsTo self.old at (take result piece.now) (flow_to stop.new)) }
         // with a formatter all but the last byte add nothing
         ensures late { (plan_of self.old).frames ≢ Bare → (u : List Placed) → Stands self.old u →

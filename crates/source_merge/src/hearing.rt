@@ -7,10 +7,11 @@ ghost use Rattle.recovery_engine.specs.Engine as recovering;
 ghost use Rattle.recovery_engine.specs.PerSource.{total_of};
 ghost use Rattle.recovery_engine.specs.declared.engine.TheConstants.{GREATEST_OFFSET};
 ghost use Rattle.source_merge.specs.Counting as counting;
+ghost use Rattle.recovering_machines.specs.Hearing.{takes_read};
 ghost use Rattle.source_merge.specs.Hearing.{Hears, most_of as most};
 
-use crate::receiver::Receiver;
 use crate::up_to::UpTo;
+use recovering_machines::Receiver;
 use recovery_engine::{PerSource, Recovery};
 use source_events::{Plan, Stop};
 use trace_values::FramesMode;
@@ -48,7 +49,7 @@ pub fn hear_front<V: Receiver>(
     requires going { stop.old ≡ None }
     requires room { 30 ≤ V.room (out.old, to.old) }
     requires few { total_of items.old ≤ 30 * (GREATEST_OFFSET + 1) }
-    ensures { Hears V.gets V.room at piece.now result ((recovery.old, items.old), (out.old, to.old))
+    ensures { Hears (takes_read V.gets) V.room at piece.now result ((recovery.old, items.old), (out.old, to.old))
         ((recovery.new, items.new), (out.new, to.new)) stop.new }
 {
     let most = most_of(recovery.plan().frames, piece.len());

@@ -4,9 +4,7 @@
 mod engine;
 mod flow;
 mod hearing;
-mod receiver;
 mod up_to;
 
 pub use engine::Engine;
 pub use flow::{Fed, Flow};
-pub use receiver::{EVENTS, Events, Receiver};

@@ -2,18 +2,16 @@
 
 ghost use Rattle.std.specs.Prelude.{◌≡◌, ◌+◌, ◌<◌, ◌≤◌, ◌∷◌, [], ℕ, None, is_none};
 ghost use Rattle.trace_values.specs.declared.limits.TheConstants.{COUNT_ROOM};
-ghost use Rattle.recovering_machines.specs.Hearing.{as_strict};
 ghost use Rattle.recovery_engine.specs.PerSource.{total_of};
 ghost use Rattle.source_merge.specs.Counting.{Counts};
 
-use crate::receiver::Receiver;
 use itm_grammar::packet::ItmPacket;
-use recovering_machines::Hearer;
+use recovering_machines::{Receiver, as_read, strictly};
 use recovery_engine::PerSource;
 use source_events::{Event, Packet, SourceKind, Stop, What};
 use stp_grammar::said::Said;
 use stretch_readings::Heard;
-use trace_values::{Fault, Reason, SourceId};
+use trace_values::{Fault, SourceId};
 
 /// Gives a receiver the events before the first fault, counts those of each source, notices of locks aside, and keeps
 /// that fault. What comes after it is dropped.
@@ -28,22 +26,6 @@ pub struct UpTo<'a, R> {
     pub left: usize,
     pub stop: &'a mut Option<Stop>,
     ghost few: { total_of items.now + left ≤ COUNT_ROOM },
-}
-
-/// What an event is in a strict report, or the reason of its fault.
-#[inline(always)]
-fn strictly(what: What<Heard<Packet>>) -> Result<What<Packet>, Reason>
-    ensures { result ≡ as_strict what }
-{
-    match what {
-        What::Locked(skipped) => Ok(What::Locked(skipped)),
-        What::Packet(Heard::Read(packet)) | What::Packet(Heard::Guessed(packet)) => {
-            Ok(What::Packet(packet))
-        }
-        What::Packet(Heard::Broken(reason)) | What::Packet(Heard::Misread(reason)) => Err(reason),
-        What::Raw(bytes) => Ok(What::Raw(bytes)),
-        What::Trigger(byte) => Ok(What::Trigger(byte)),
-    }
 }
 
 /// Counts an event, if it is one of a source and no notice.
@@ -63,23 +45,27 @@ fn count_item(items: &mut PerSource, event: &Event<Packet>)
     }
 }
 
-impl<'a, R: Receiver> Hearer for UpTo<'a, R> {
+impl<'a, R: Receiver> Receiver for UpTo<'a, R> {
+    ghost use Rattle.std.specs.Prelude.{map};
+    ghost use Rattle.recovering_machines.specs.Hearing.{as_read, takes_read};
+    ghost use Rattle.recovering_machines.specs.HearingLaws.{read_adds_up};
     ghost use Rattle.source_merge.specs.UpTo.{UpToGets, room_of};
     ghost use Rattle.source_merge.specs.UpToLaws.{adds_up, takes_on};
 
     type To = R::To;
 
-    ghost gets = { λ old es new. UpToGets R.gets R.room old es new };
+    ghost gets = { λ old es new. UpToGets (takes_read R.gets) R.room old es new };
 
     ghost room = { λ s. room_of R.room s };
 
     ghost takes = { λ up_to source kind. R.takes up_to.receiver.now source kind };
 
-    ghost adds_up = { adds_up R.gets R.room R.adds_up };
+    ghost adds_up = { adds_up (takes_read R.gets) R.room (read_adds_up R.gets R.adds_up) };
 
-    ghost takes_on = { λ a b es source kind g t. takes_on R.gets R.room R.takes R.takes_on a b es source kind g t };
+    ghost takes_on = { λ a b es source kind g t. takes_on (takes_read R.gets) R.room R.takes
+        (λ x y fs s k h u. R.takes_on x y (map as_read fs) s k h u) a b es source kind g t };
 
-    fn hear(&mut self, to: &mut R::To, event: Event<Heard<Packet>>) {
+    fn give(&mut self, to: &mut R::To, event: Event<Heard<Packet>>) {
         if self.stop.is_some() {
             return;
         }
@@ -94,7 +80,7 @@ impl<'a, R: Receiver> Hearer for UpTo<'a, R> {
                 };
                 count_item(self.items, &event);
                 self.left -= 1;
-                self.receiver.give(to, event);
+                self.receiver.give(to, as_read(event));
             }
             Err(reason) => {
                 let fault = Fault { at, half, reason };
@@ -114,7 +100,7 @@ impl<'a, R: Receiver> Hearer for UpTo<'a, R> {
     }
 
     #[inline(always)]
-    fn hear_itm(&mut self, to: &mut R::To, at: u64, half: u8, source: SourceId, packet: ItmPacket) {
+    fn give_itm(&mut self, to: &mut R::To, at: u64, half: u8, source: SourceId, packet: ItmPacket) {
         if self.stop.is_none() {
             self.items.add(source, 1);
             self.left -= 1;
@@ -123,7 +109,7 @@ impl<'a, R: Receiver> Hearer for UpTo<'a, R> {
     }
 
     #[inline(always)]
-    fn hear_said(&mut self, to: &mut R::To, at: u64, half: u8, source: SourceId, said: Said) {
+    fn give_said(&mut self, to: &mut R::To, at: u64, half: u8, source: SourceId, said: Said) {
         if self.stop.is_none() {
             self.items.add(source, 1);
             self.left -= 1;
@@ -132,7 +118,7 @@ impl<'a, R: Receiver> Hearer for UpTo<'a, R> {
     }
 
     #[inline(always)]
-    fn hear_raw(&mut self, to: &mut R::To, at: u64, source: SourceId, bytes: &[u8]) {
+    fn give_raw(&mut self, to: &mut R::To, at: u64, source: SourceId, bytes: &[u8]) {
         if self.stop.is_none() {
             self.items.add(source, 1);
             self.left -= 1;
@@ -141,7 +127,7 @@ impl<'a, R: Receiver> Hearer for UpTo<'a, R> {
     }
 
     #[inline(always)]
-    fn hear_trigger(&mut self, to: &mut R::To, at: u64, source: SourceId, byte: u8) {
+    fn give_trigger(&mut self, to: &mut R::To, at: u64, source: SourceId, byte: u8) {
         if self.stop.is_none() {
             self.items.add(source, 1);
             self.left -= 1;

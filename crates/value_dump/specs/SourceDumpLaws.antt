@@ -6,7 +6,7 @@ use Rattle.value_dump.specs.DumpLaws.{lines_append, packets_append}
 use Rattle.value_dump.specs.Dumping.{Stands, hz_of}
 use Rattle.value_dump.specs.SourceDump.{gets}
 use Rattle.value_dump.specs.declared.source_dump.SourceDump.{SourceDump}
-use Rattle.source_merge.specs.Giving.{AddsUp}
+use Rattle.recovering_machines.specs.Hearing.{AddsUp}
 
 gets_none : (s : SourceDump × List ℕ) → gets s [] s
 gets_none s = record {

@@ -2,6 +2,7 @@
 
 ghost use Rattle.std.specs.Prelude.{◌≡◌, ◌+◌, ◌<◌, ◌≤◌, ◌∷◌, ◌++◌, [], length, false, if◌then◌else◌};
 ghost use Rattle.source_events.specs.declared.event.What.TheVariants.{Packet as GivenPacket};
+ghost use Rattle.source_events.specs.Fitting.{EventFits, PacketFits};
 ghost use Rattle.value_dump.specs.Dumping.{hz_of, owed_by};
 ghost use Rattle.value_dump.specs.Header.{header};
 ghost use Rattle.value_dump.specs.Names.{ACTION_ROOM, Event, IsProper, Itm, OUTLET_ROOM, Packet};
@@ -12,9 +13,10 @@ ghost use Rattle.value_dump.specs.declared.values.TheConstants.{ALL_ROOM};
 use crate::dump::{PACKET_ROOM, ValueDump};
 use crate::header::put_header;
 use itm_grammar::packet::ItmPacket;
+use recovering_machines::{Receiver, seen};
 use source_events::{Event, Packet, SourceKind, What};
-use source_merge::Receiver;
 use stp_grammar::said::Said;
+use stretch_readings::Heard;
 use trace_stream::{OUTLET_ROOM, Outlet};
 use trace_values::SourceId;
 
@@ -52,26 +54,40 @@ impl SourceDump {
             self.dump.put_packet(outlet, packet);
         }
     }
+
+    /// Takes the next event.
+    fn put_event(&mut self, outlet: &mut Outlet, event: &Event<Packet>)
+        requires fits { EventFits PacketFits event.now }
+        requires room { 0 < room (self.old, outlet.old) }
+        ensures gets { gets (self.old, outlet.old) (event.now ∷ []) (self.new, outlet.new) }
+        ensures room { room (self.old, outlet.old) ≤ room (self.new, outlet.new) + 1 }
+    {
+        if let What::Packet(Packet::Itm(packet)) = &event.what {
+            self.put_packet(outlet, event.source, packet);
+        }
+    }
 }
 
 /// Of all events the packets of the source alone are looked at.
 impl Receiver for SourceDump {
     ghost use Rattle.value_dump.specs.SourceDump.{gets, room};
     ghost use Rattle.value_dump.specs.SourceDumpLaws.{adds_up};
+    ghost use Rattle.recovering_machines.specs.Hearing.{takes_seen};
+    ghost use Rattle.recovering_machines.specs.HearingLaws.{seen_adds_up};
 
     type To = Outlet;
 
-    ghost gets = { gets };
+    ghost gets = { λ old es new. takes_seen gets old es new };
 
     ghost room = { room };
 
-    ghost adds_up = { adds_up };
+    ghost adds_up = { seen_adds_up gets adds_up };
 
     ghost takes_on = { λ a b es source kind g t. t };
 
-    fn give(&mut self, outlet: &mut Outlet, event: Event<Packet>) {
-        if let What::Packet(Packet::Itm(packet)) = &event.what {
-            self.put_packet(outlet, event.source, packet);
+    fn give(&mut self, outlet: &mut Outlet, event: Event<Heard<Packet>>) {
+        if let Some(event) = seen(event) {
+            self.put_event(outlet, &event);
         }
     }
 

@@ -22,12 +22,12 @@ kind g = record {
 pub loop-done-init : goal.loop-done-init
 loop-done-init g c = record {
   took =
-      found.begun (kind g) g.M.Finds.source g.V.Hearer.gets g.V.Hearer.room g.met.V.Hearer.adds_up.none
-      g.met.V.Hearer.adds_up.more c.args.id (g.R.Run.cells c.args.run.now) c.args.from c.args.machine.now
+      found.begun (kind g) g.M.Finds.source g.V.Receiver.gets g.V.Receiver.room g.met.V.Receiver.adds_up.none
+      g.met.V.Receiver.adds_up.more c.args.id (g.R.Run.cells c.args.run.now) c.args.from c.args.machine.now
       (c.args.out.now, c.args.to.now) (λ m u s. (g.met.M.Finds.reads_shows m u s).live_is) c.requires.live
       c.requires.from;
   taking = λ t.
-      subst (λ (k : SourceKind). g.V.Hearer.takes c.args.out.now c.args.id k) c.kind.ensures (c.takes_told-takes_told.ensures.0 t);
+      subst (λ (k : SourceKind). g.V.Receiver.takes c.args.out.now c.args.id k) c.kind.ensures (c.takes_told-takes_told.ensures.0 t);
 }
 
 pub loop-done-preserved-in-Ends : goal.loop-done-preserved-in-Ends
@@ -42,21 +42,21 @@ loop-done-preserved-in-Ends g c = record {
       let within : done + taken.bytes ≤ length run =
       (let a = end.bytes.1 in let b = few.1 in let h = c.loop-done-test.true in let e = c.len-in-loop-done.ensures in
       let f = c.len.ensures in omega (arith, a, b, h, e, f)) in
-      found.more (kind g) g.M.Finds.source g.V.Hearer.gets g.V.Hearer.room g.met.V.Hearer.adds_up.none
-      g.met.V.Hearer.adds_up.more c.args.id run c.args.from c.args.machine.now (c.args.out.now, c.args.to.now)
+      found.more (kind g) g.M.Finds.source g.V.Receiver.gets g.V.Receiver.room g.met.V.Receiver.adds_up.none
+      g.met.V.Receiver.adds_up.more c.args.id run c.args.from c.args.machine.now (c.args.out.now, c.args.to.now)
       done taken.bytes c.look.new.machine c.end-taken.new.self (c.loop-done.out, c.loop-done.to)
-      (c.hear_found.new.out, c.hear_found.new.to) last (told_in taken.half taken.item)
+      (c.give_found.new.out, c.give_found.new.to) last (told_in taken.half taken.item)
       (ended taken.half last.at (packet_of taken.item)) c.ahead-ahead.result.now
-      (found.stayed (kind g) g.M.Finds.source g.V.Hearer.gets g.V.Hearer.room g.met.V.Hearer.adds_up.none
-      g.met.V.Hearer.adds_up.more c.args.id run c.args.from c.args.machine.now (c.args.out.now, c.args.to.now)
+      (found.stayed (kind g) g.M.Finds.source g.V.Receiver.gets g.V.Receiver.room g.met.V.Receiver.adds_up.none
+      g.met.V.Receiver.adds_up.more c.args.id run c.args.from c.args.machine.now (c.args.out.now, c.args.to.now)
       done c.loop-done.machine c.look.new.machine (c.loop-done.out, c.loop-done.to) c.look.ensures.same.0
       c.look.ensures.same.1 c.look.ensures.live
       (c.look.ensures.idles (λ w. (let z = c.in-Ends.is in let q = w in cc))) c.loop-done.invariant.took)
       end.bytes.0 within c.cell.ensures c.ahead-ahead.ensures.bytes
       (let k = c.ahead-ahead.ensures.room in omega (arith, k)) end.same end.alike end.live end.few end.passes
-      (found.told_kept taken.half last.at taken.item) c.hear_found.ensures.received
-      (let a = c.hear_found.ensures.room in let b = end.bytes.0 in omega (arith, a, b));
-  taking = λ t. g.met.V.Hearer.takes_on _ _ _ _ _ c.hear_found.ensures.received (c.loop-done.invariant.taking t);
+      (found.told_kept taken.half last.at taken.item) c.give_found.ensures.received
+      (let a = c.give_found.ensures.room in let b = end.bytes.0 in omega (arith, a, b));
+  taking = λ t. g.met.V.Receiver.takes_on _ _ _ _ _ c.give_found.ensures.received (c.loop-done.invariant.taking t);
 }
 
 pub loop-done-preserved : goal.loop-done-preserved
@@ -72,24 +72,24 @@ loop-done-preserved g c = record {
       let inside = i.within in
       let some : 0 < count = omega (arith, h, length_is, first_length) in
       let within : done + count ≤ length run = omega (arith, length_is, inside) in
-      subst (λ (n : ℕ). TookPackets (kind g) g.M.Finds.source g.V.Hearer.gets g.V.Hearer.room c.args.id run c.args.from n
+      subst (λ (n : ℕ). TookPackets (kind g) g.M.Finds.source g.V.Receiver.gets g.V.Receiver.room c.args.id run c.args.from n
       c.args.machine.now c.look.new.machine (c.args.out.now, c.args.to.now) (c.loop-done.out, c.loop-done.to))
       (let e = c.len-done.ensures in omega (arith, e, length_is, inside))
-      (found.more (kind g) g.M.Finds.source g.V.Hearer.gets g.V.Hearer.room g.met.V.Hearer.adds_up.none
-      g.met.V.Hearer.adds_up.more c.args.id run c.args.from c.args.machine.now (c.args.out.now, c.args.to.now)
+      (found.more (kind g) g.M.Finds.source g.V.Receiver.gets g.V.Receiver.room g.met.V.Receiver.adds_up.none
+      g.met.V.Receiver.adds_up.more c.args.id run c.args.from c.args.machine.now (c.args.out.now, c.args.to.now)
       done count c.loop-done.machine c.look.new.machine (c.loop-done.out, c.loop-done.to)
       (c.loop-done.out, c.loop-done.to) (last_of run done count) None [] c.ahead-ahead.result.now
       i some within (last_is run done count some within) c.ahead-ahead.ensures.bytes
       (let k = c.ahead-ahead.ensures.room in omega (arith, k)) c.look.ensures.same.0 c.look.ensures.same.1
       c.look.ensures.live (c.look.ensures.few c.in-Waits.is) (c.look.ensures.waits c.in-Waits.is) refl
-      (g.met.V.Hearer.adds_up.none (c.loop-done.out, c.loop-done.to)) (omega arith));
+      (g.met.V.Receiver.adds_up.none (c.loop-done.out, c.loop-done.to)) (omega arith));
   taking = c.loop-done.invariant.taking;
 }
 
 pub returns-in-Unknown : goal.returns-in-Unknown
 returns-in-Unknown g c =
-    found.stayed (kind g) g.M.Finds.source g.V.Hearer.gets g.V.Hearer.room g.met.V.Hearer.adds_up.none
-    g.met.V.Hearer.adds_up.more c.args.id (g.R.Run.cells c.args.run.now) c.args.from c.args.machine.now
+    found.stayed (kind g) g.M.Finds.source g.V.Receiver.gets g.V.Receiver.room g.met.V.Receiver.adds_up.none
+    g.met.V.Receiver.adds_up.more c.args.id (g.R.Run.cells c.args.run.now) c.args.from c.args.machine.now
     (c.args.out.now, c.args.to.now) c.loop-done.done c.loop-done.machine c.look.new.machine
     (c.loop-done.out, c.loop-done.to) c.look.ensures.same.0
     c.look.ensures.same.1 c.look.ensures.live

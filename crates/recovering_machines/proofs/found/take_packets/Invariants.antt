@@ -12,9 +12,9 @@ invariant-loop-done g l = record {
         live = g.M.Machine.live;
         held = g.M.Machine.held_units;
         skipped = g.M.Machine.skipped_units;
-      }) g.M.Finds.source g.V.Hearer.gets g.V.Hearer.room l.id (g.R.Run.cells l.run) l.from l.done
+      }) g.M.Finds.source g.V.Receiver.gets g.V.Receiver.room l.id (g.R.Run.cells l.run) l.from l.done
       l.fn.machine l.machine (l.fn.out, l.fn.to) (l.out, l.to);
-  taking : l.takes_told ≡ true → g.V.Hearer.takes l.out l.id g.M.Finds.kind;
+  taking : l.takes_told ≡ true → g.V.Receiver.takes l.out l.id g.M.Finds.kind;
 }
 
 abbrev pub decreases-loop-done : goal.decreases-loop-done

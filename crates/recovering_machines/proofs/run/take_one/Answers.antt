@@ -15,9 +15,9 @@ returns g c =
     c.cell-cell.ensures ∙ ap (λ (n : ℕ). get_or cells n cell) (let e : from ≡ from + 1 - 1 = omega arith in e) in
     let parts : between from (from + 1) cells ≡ cell ∷ [] =
     between_as from 1 cells ∙ last_parts cells from 1 cell (omega arith) within is in
-    subst (λ (l : List Cell). TakesRun g.V.Hearer.gets g.V.Hearer.room c.args.id l c.args.source.now
-    c.feed-step.new.self (c.args.out.now, c.args.to.now) (c.hear_step.new.out, c.hear_step.new.to)) (sym parts)
-    (takes_one g.V.Hearer.gets g.V.Hearer.room g.met.V.Hearer.adds_up.none g.met.V.Hearer.adds_up.more c.args.id
-    c.args.source.now c.feed-step.new.self (c.args.out.now, c.args.to.now) (c.hear_step.new.out, c.hear_step.new.to) cell
+    subst (λ (l : List Cell). TakesRun g.V.Receiver.gets g.V.Receiver.room c.args.id l c.args.source.now
+    c.feed-step.new.self (c.args.out.now, c.args.to.now) (c.give_step.new.out, c.give_step.new.to)) (sym parts)
+    (takes_one g.V.Receiver.gets g.V.Receiver.room g.met.V.Receiver.adds_up.none g.met.V.Receiver.adds_up.more c.args.id
+    c.args.source.now c.feed-step.new.self (c.args.out.now, c.args.to.now) (c.give_step.new.out, c.give_step.new.to) cell
     c.feed-step.result c.feed-step.ensures.kind c.feed-step.ensures.reads c.feed-step.ensures.list
-    c.feed-step.ensures.given c.feed-step.ensures.few c.hear_step.ensures.received c.hear_step.ensures.room)
+    c.feed-step.ensures.given c.feed-step.ensures.few c.give_step.ensures.received c.give_step.ensures.room)

@@ -60,13 +60,13 @@ returns-in-Some-clause-takes g c =
     c.ahead.ensures.bytes (let k = c.ahead.ensures.room in omega (arith, k)) c.in-Some.ensures.bytes.0
     c.in-Some.ensures.bytes.1 c.cell.ensures in
     let size = p.size in
-    subst (λ (l : List Cell). TakesRun g.V.Hearer.gets g.V.Hearer.room c.args.id l c.args.source.now c.take.new.self
-    (c.args.out.now, c.args.to.now) (c.hear_packet.new.out, c.hear_packet.new.to)) (sym p.parts)
-    (takes_cells g.V.Hearer.gets g.V.Hearer.room g.met.V.Hearer.adds_up.none g.met.V.Hearer.adds_up.more c.args.id
-    c.args.source.now c.take.new.self (c.args.out.now, c.args.to.now) (c.hear_packet.new.out, c.hear_packet.new.to)
+    subst (λ (l : List Cell). TakesRun g.V.Receiver.gets g.V.Receiver.room c.args.id l c.args.source.now c.take.new.self
+    (c.args.out.now, c.args.to.now) (c.give_packet.new.out, c.give_packet.new.to)) (sym p.parts)
+    (takes_cells g.V.Receiver.gets g.V.Receiver.room g.met.V.Receiver.adds_up.none g.met.V.Receiver.adds_up.more c.args.id
+    c.args.source.now c.take.new.self (c.args.out.now, c.args.to.now) (c.give_packet.new.out, c.give_packet.new.to)
     p.before last (take count (take (c.len.result - from) (drop from c.ahead.result.now))) taken.half taken.item
     c.take.ensures.kind c.take.ensures.reads c.in-Some.ensures.takes p.there
-    (let f = c.in-Some.ensures.few in omega (arith, f, size)) c.hear_packet.ensures.received c.hear_packet.ensures.room)
+    (let f = c.in-Some.ensures.few in omega (arith, f, size)) c.give_packet.ensures.received c.give_packet.ensures.room)
 
 pub returns-in-Some-clause-goes : goal.returns-in-Some-clause-goes
 returns-in-Some-clause-goes g c = λ r k.
@@ -83,10 +83,10 @@ returns-in-Some-clause-goes g c = λ r k.
 pub returns-clause-takes : goal.returns-clause-takes
 returns-clause-takes g c =
     let idle = c.take.ensures.none c.in_default.is in
-    subst (λ (l : List Cell). TakesRun g.V.Hearer.gets g.V.Hearer.room c.args.id l c.args.source.now c.take.new.self
+    subst (λ (l : List Cell). TakesRun g.V.Receiver.gets g.V.Receiver.room c.args.id l c.args.source.now c.take.new.self
     (c.args.out.now, c.args.to.now) (c.args.out.now, c.args.to.now))
     (sym (between_none c.args.from (g.R.Run.cells c.args.run.now)))
-    (takes_idle g.V.Hearer.gets g.V.Hearer.room g.met.V.Hearer.adds_up.none g.met.V.Hearer.adds_up.more c.args.id
+    (takes_idle g.V.Receiver.gets g.V.Receiver.room g.met.V.Receiver.adds_up.none g.met.V.Receiver.adds_up.more c.args.id
     c.args.source.now c.take.new.self (c.args.out.now, c.args.to.now) c.take.ensures.kind c.take.ensures.reads idle.0
     idle.1)
 

@@ -20,9 +20,9 @@ pub returns-then-is_empty-clause-takes : goal.returns-then-is_empty-clause-takes
 returns-then-is_empty-clause-takes g t c =
     let none : length c.args.cells.now ≡ 0 = (let e = c.is_empty.ensures in let f = c.if-is_empty.ensures in
     let h = c.if-is_empty.true in grind (arith, nat_tests)) in
-    subst (λ l. Takes g.V.Hearer.gets (map Run (runs_of l)) (c.args.slots.now, (c.args.out.now, c.args.to.now))
+    subst (λ l. Takes g.V.Receiver.gets (map Run (runs_of l)) (c.args.slots.now, (c.args.out.now, c.args.to.now))
     (c.args.slots.now, (c.args.out.now, c.args.to.now))) (sym (no_cells c.args.cells.now none))
-    (takes_none g.V.Hearer.gets g.met.V.Hearer.adds_up.none (c.args.slots.now, (c.args.out.now, c.args.to.now)))
+    (takes_none g.V.Receiver.gets g.met.V.Receiver.adds_up.none (c.args.slots.now, (c.args.out.now, c.args.to.now)))
 
 pub returns-clause-takes : goal.returns-clause-takes
 returns-clause-takes g t c =
@@ -34,15 +34,15 @@ returns-clause-takes g t c =
     let more = take (length cells - n) rest in
     let left = length-drop n cells in
     let tail : more ≡ rest = take_all (length cells - n) rest (omega (arith, left)) in
-    subst (λ l. Takes g.V.Hearer.gets (map Run l) (c.args.slots.now, (c.args.out.now, c.args.to.now))
+    subst (λ l. Takes g.V.Receiver.gets (map Run l) (c.args.slots.now, (c.args.out.now, c.args.to.now))
     (c.take_frame.new.slots, (c.take_frame.new.out, c.take_frame.new.to)))
     (ap (λ l. take n cells ∷ runs_of l) tail ∙ sym (cut_at cells n c.run_length-n.ensures.value some))
-    (takes_then g.V.Hearer.gets g.met.V.Hearer.adds_up.more (c.args.slots.now, (c.args.out.now, c.args.to.now)) (
+    (takes_then g.V.Receiver.gets g.met.V.Receiver.adds_up.more (c.args.slots.now, (c.args.out.now, c.args.to.now)) (
       c.take_run.new.slots,
       (c.take_run.new.out, c.take_run.new.to),
     ) (c.take_frame.new.slots, (c.take_frame.new.out, c.take_frame.new.to))
     (Run (take n cells) ∷ []) (map Run (runs_of more))
-    (subst (λ (l : List Cell). Takes g.V.Hearer.gets (Run l ∷ []) (c.args.slots.now, (c.args.out.now, c.args.to.now))
+    (subst (λ (l : List Cell). Takes g.V.Receiver.gets (Run l ∷ []) (c.args.slots.now, (c.args.out.now, c.args.to.now))
     (c.take_run.new.slots, (c.take_run.new.out, c.take_run.new.to))) c.of.ensures c.take_run.ensures.takes)
     c.take_frame.ensures.takes)
 

@@ -21,15 +21,15 @@ loop-index-preserved g c =
     let size = ap length c.of.ensures in
     record {
       given =
-          subst (λ l. g.V.Hearer.gets (c.args.out.now, c.args.to.now) l
+          subst (λ l. g.V.Receiver.gets (c.args.out.now, c.args.to.now) l
           (c.give_raw.new.out, c.give_raw.new.to))
           (sym (ap (raw_each x) next
           ∙ flat_map-append (λ (k : Cell). told (Some x) (raw_events x (k ∷ []))) (take i cells) (cell ∷ [])
           ∙ ap (λ l. raw_each x (take i cells) ++ l) (append-nil (told (Some x) (raw_events x (cell ∷ []))))))
-          (g.met.V.Hearer.adds_up.more (c.args.out.now, c.args.to.now) (c.loop-index.out, c.loop-index.to)
+          (g.met.V.Receiver.adds_up.more (c.args.out.now, c.args.to.now) (c.loop-index.out, c.loop-index.to)
           (c.give_raw.new.out, c.give_raw.new.to) (raw_each x (take i cells))
           (told (Some x) (raw_events x (cell ∷ []))) c.loop-index.invariant.given
-          (subst (λ (l : List Cell). g.V.Hearer.gets (c.loop-index.out, c.loop-index.to)
+          (subst (λ (l : List Cell). g.V.Receiver.gets (c.loop-index.out, c.loop-index.to)
           (told (Some x) (raw_events x l)) (c.give_raw.new.out, c.give_raw.new.to)) c.of.ensures
           c.give_raw.ensures.given));
       space = (let a = c.loop-index.invariant.space in let b = c.give_raw.ensures.room in omega (arith, a, b, size));

@@ -18,15 +18,15 @@ told_by x n run = told (Some x) (raw_events n run)
 pub returns-then-number-eq-NULL-clause-given : goal.returns-then-number-eq-NULL-clause-given
 returns-then-number-eq-NULL-clause-given g c =
     let x = c.args.id in
-    subst (λ n. g.V.Hearer.gets (c.args.out.now, c.args.to.now) (told_by x n (g.R.Run.cells c.args.run.now))
+    subst (λ n. g.V.Receiver.gets (c.args.out.now, c.args.to.now) (told_by x n (g.R.Run.cells c.args.run.now))
     (c.args.out.now, c.args.to.now))
     (sym (sym c.number-number.ensures.value ∙ c.if-number-eq-NULL.true))
-    (g.met.V.Hearer.adds_up.none (c.args.out.now, c.args.to.now))
+    (g.met.V.Receiver.adds_up.none (c.args.out.now, c.args.to.now))
 
 pub returns-then-number-eq-TRIGGER-clause-given : goal.returns-then-number-eq-TRIGGER-clause-given
 returns-then-number-eq-TRIGGER-clause-given g c =
     let x = c.args.id in
-    subst (λ n. g.V.Hearer.gets (c.args.out.now, c.args.to.now) (told_by x n (g.R.Run.cells c.args.run.now))
+    subst (λ n. g.V.Receiver.gets (c.args.out.now, c.args.to.now) (told_by x n (g.R.Run.cells c.args.run.now))
     (c.give_triggers.new.out, c.give_triggers.new.to))
     (sym (sym c.number-number.ensures.value ∙ c.if-number-eq-TRIGGER.true))
     c.give_triggers.ensures.given
@@ -37,8 +37,8 @@ returns-clause-given g c =
     let x = c.args.id in
     let bytes = take c.len-count.result c.ahead.result.now in
     let last = c.cell-at.result in
-    subst (λ (l : List (What (Heard Packet) × Place)). g.V.Hearer.gets (c.args.out.now, c.args.to.now)
-    (told (Some x) l) (c.hear_raw.new.self, c.hear_raw.new.to))
+    subst (λ (l : List (What (Heard Packet) × Place)). g.V.Receiver.gets (c.args.out.now, c.args.to.now)
+    (told (Some x) l) (c.give_raw.new.self, c.give_raw.new.to))
     (ap (λ (n : ℕ). (Raw bytes, record { at = n; half = 0 }) ∷ [])
     (ap (λ (d : Cell). d.at)
     (c.cell-at.ensures ∙ ap (λ (n : ℕ). get_or run (n - 1) last) c.len-count.ensures)
@@ -47,4 +47,4 @@ returns-clause-given g c =
     (ap (λ (n : ℕ). take n c.ahead.result.now) c.len-count.ensures ∙ c.ahead.ensures.bytes)
     ∙ sym (raw_is (Heard Packet) x run (λ e. c.if-number-eq-NULL.false (c.number-number.ensures.value ∙ e))
     (λ e. c.if-number-eq-TRIGGER.false (c.number-number.ensures.value ∙ e))))
-    c.hear_raw.ensures.gets
+    c.give_raw.ensures.gets

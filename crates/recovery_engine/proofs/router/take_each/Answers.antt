@@ -14,8 +14,8 @@ returns-then-not-take_own-clause-takes g c =
     let said = raw_each x cells in
     let other = c.take_own.ensures.other c.if-not-take_own.true in (
       said,
-      subst (λ o. g.V.Hearer.gets (o, c.args.to.now) said (c.give_each.new.out, c.give_each.new.to)) other.1
-          (subst (λ t. g.V.Hearer.gets (c.take_own.new.out, t) said (c.give_each.new.out, c.give_each.new.to)) other.2
+      subst (λ o. g.V.Receiver.gets (o, c.args.to.now) said (c.give_each.new.out, c.give_each.new.to)) other.1
+          (subst (λ t. g.V.Receiver.gets (c.take_own.new.out, t) said (c.give_each.new.out, c.give_each.new.to)) other.2
           c.give_each.ensures.given),
       λ guesses plan parts k. subst (λ l. Grown guesses plan parts (singles cells) l said) (sym other.0)
           (grown_raws guesses plan cells parts x c.args.slots.now c.requires.own other.3 k),
@@ -26,7 +26,7 @@ returns-else-not-take_own-clause-takes g c =
     let own = c.take_own.ensures.own c.if-not-take_own.false in (
       told (Some c.args.id) (lifted own.takes.said),
       own.takes.received,
-      λ guesses plan parts k. grown_each g.V.Hearer.gets g.V.Hearer.room guesses plan parts
+      λ guesses plan parts k. grown_each g.V.Receiver.gets g.V.Receiver.room guesses plan parts
           (g.R.Run.cells c.args.run.now) c.args.id
           (c.args.slots.now, (c.args.out.now, c.args.to.now))
           (c.take_own.new.slots, (c.take_own.new.out, c.take_own.new.to)) c.requires.own k own,

@@ -19,11 +19,11 @@ loop-run-init g c =
     record {
       left = c.runs-left.ensures.left;
       so_far =
-          subst (λ (l : List Cell). SoFar g.V.Hearer.gets g.V.Hearer.room (split_cells split)
+          subst (λ (l : List Cell). SoFar g.V.Receiver.gets g.V.Receiver.room (split_cells split)
           (c.args.slots.now, (c.args.out.now, c.args.to.now)) l (c.args.slots.now, (c.args.out.now, c.args.to.now)))
           (sym c.runs-left.ensures.all)
-          (none_taken g.V.Hearer.gets g.V.Hearer.room (split_cells split)
-          (c.args.slots.now, (c.args.out.now, c.args.to.now)) g.met.V.Hearer.adds_up.none);
+          (none_taken g.V.Receiver.gets g.V.Receiver.room (split_cells split)
+          (c.args.slots.now, (c.args.out.now, c.args.to.now)) g.met.V.Receiver.adds_up.none);
     }
 
 -- a frame has at most 15 cells
@@ -57,8 +57,8 @@ loop-run-preserved g c =
     record {
       left = c.in-Some.ensures.left;
       so_far =
-          one_more g.V.Hearer.gets g.V.Hearer.room (split_cells split)
-          (c.args.slots.now, (c.args.out.now, c.args.to.now)) g.met.V.Hearer.adds_up.more
+          one_more g.V.Receiver.gets g.V.Receiver.room (split_cells split)
+          (c.args.slots.now, (c.args.out.now, c.args.to.now)) g.met.V.Receiver.adds_up.more
           (left_cells split c.loop-run.left) (run_in run) (left_cells split c.next_run.new.left)
           (c.loop-run.slots, (c.loop-run.out, c.loop-run.to))
           (c.take_run.new.slots, (c.take_run.new.out, c.take_run.new.to))
@@ -76,9 +76,9 @@ returns g c =
     ∙ ap (λ (f : PlacedFrame). cells f.bytes (frame_places f) c.args.id.now) c.of-split.ensures.frame in
     record {
       takes =
-          subst (λ (l : List Cell). Takes g.V.Hearer.gets (map Run (runs_of l))
+          subst (λ (l : List Cell). Takes g.V.Receiver.gets (map Run (runs_of l))
           (c.args.slots.now, (c.args.out.now, c.args.to.now)) (c.loop-run.slots, (c.loop-run.out, c.loop-run.to))) same
-          (all_taken g.V.Hearer.gets g.V.Hearer.room (split_cells split)
+          (all_taken g.V.Receiver.gets g.V.Receiver.room (split_cells split)
           (c.args.slots.now, (c.args.out.now, c.args.to.now))
           (left_cells split c.loop-run.left) (c.loop-run.slots, (c.loop-run.out, c.loop-run.to))
           (c.in_default.ensures.none refl) i);

@@ -7,7 +7,7 @@ use Rattle.recovery_engine.proofs.router.take_whole.Given as goal
 abbrev pub invariant-loop-run : goal.invariant-loop-run
 invariant-loop-run g l = record {
   left : IsLeft l.split l.left;
-  so_far : SoFar g.V.Hearer.gets g.V.Hearer.room (split_cells l.split) (l.fn.slots, (l.fn.out, l.fn.to))
+  so_far : SoFar g.V.Receiver.gets g.V.Receiver.room (split_cells l.split) (l.fn.slots, (l.fn.out, l.fn.to))
       (left_cells l.split l.left) (l.slots, (l.out, l.to));
 }
 

@@ -2,7 +2,7 @@ use Rattle.trace_values.specs.Placed.{placed}
 use Rattle.recovery_report.specs.Report.{report_with}
 use Rattle.capture_actions.specs.PortText.{source_of}
 use Rattle.capture_actions.proofs.Values.{values_chosen}
-use Rattle.recovery_listing.specs.Listing.{seen_in}
+use Rattle.recovering_machines.specs.Hearing.{seen_in}
 use Rattle.recovery_listing.proofs.laws.port_text_law.Goals as goal
 
 pub returns : goal.returns

@@ -2,6 +2,7 @@ use Rattle.std.proofs.Common.{Option, ◌≡◌, ◌≤◌, ◌+◌, ◌*◌, �
 use Rattle.std.proofs.Math.Nat.{min-le_left, min-le_right}
 use Rattle.std.specs.Option.{option_map}
 use Rattle.trace_values.specs.Placed.{placed_from}
+use Rattle.recovering_machines.specs.Hearing.{takes_read}
 use Rattle.recovery_engine.specs.Engine as recovering
 use Rattle.recovery_engine.specs.PerSource.{total_of}
 use Rattle.recovery_engine.specs.declared.per_source.PerSource.{PerSource}
@@ -42,9 +43,9 @@ returns g c =
         next = h.next;
         list = h.list;
         late = h.late;
-        got = subst (λ r. g.V.Receiver.gets (c.args.out.now, c.args.to.now) (upto es) (r, c.take.new.to))
+        got = subst (λ r. takes_read g.V.Receiver.gets (c.args.out.now, c.args.to.now) (upto es) (r, c.take.new.to))
             (search (rules, k.to_same))
-            (subst (λ (o : Option Stop). g.V.Receiver.gets (c.args.out.now, c.args.to.now) (before o es)
+            (subst (λ (o : Option Stop). takes_read g.V.Receiver.gets (c.args.out.now, c.args.to.now) (before o es)
             (out.receiver.now, c.take.new.to)) c.requires.going k.receiver);
         fault = subst (λ (o : Option Stop). option_map stop_of o ≡ first_fault es) (search (rules, k.stop_same))
             (subst (λ (o : Option Stop). option_map stop_of out.stop.now ≡ fault_after o es) c.requires.going k.stop);

@@ -3,7 +3,8 @@ use Rattle.capture_actions.specs.Names.{Event, Packet, Plan, placed, report_of}
 use Rattle.capture_actions.specs.Faulty.{read_of}
 use Rattle.capture_actions.specs.CaptureReading as readings
 use Rattle.capture_actions.specs.KindCheck.{plan_of, last_by}
-use Rattle.capture_actions.specs.KindCounts.{HasCounted}
+use Rattle.recovering_machines.specs.HearingLaws.{took_read}
+use Rattle.capture_actions.specs.KindCounts.{HasCounted, gets}
 use Rattle.capture_actions.proofs.Parts.{still_paid}
 use Rattle.capture_actions.proofs.ReadWhole.{read_whole}
 use Rattle.capture_actions.proofs.kind_check.KindCheckAction.feed.Goals as goal
@@ -24,7 +25,8 @@ returns-clause-fed c = λ seen s.
         read = subst (λ (r : Plan). read_of r next ≡ next) (sym same) (read_whole p next one.result.is_faulty grew.fault);
         kinds = subst (λ (l : List (Event Packet)). HasCounted new.out l)
             (sym (ap (λ (r : Plan). report_of r (placed next)) same ∙ grew.report))
-            (one.ensures.reads.1 (report_of p (placed seen)) s.kinds);
+            (took_read gets (old.kinds, tt) (new.out, tt) one.ensures.reads.0 one.ensures.reads.1
+            (report_of p (placed seen)) s.kinds);
       };
       more = [];
       grown = refl;

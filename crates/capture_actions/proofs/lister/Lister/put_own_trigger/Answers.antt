@@ -1,5 +1,5 @@
 use Rattle.std.proofs.Common.{◌∙◌, ◌++◌, Bool, true, false, refl, sym, ap, append-nil}
-use Rattle.source_merge.specs.Receiver.{trigger_event}
+use Rattle.recovering_machines.specs.Events.{trigger_event}
 use Rattle.capture_actions.specs.Names.{Event, Packet, event_line, None as NoRemark}
 use Rattle.capture_actions.proofs.Wanted.{put_from_parts}
 use Rattle.capture_actions.proofs.lister.Lister.put_own_trigger.Goals as goal

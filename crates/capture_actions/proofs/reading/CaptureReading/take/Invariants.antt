@@ -1,4 +1,5 @@
 use Rattle.std.proofs.Common.{◌<◌, ◌≤◌, length, take, false}
+use Rattle.recovering_machines.specs.Hearing.{takes_read}
 use Rattle.capture_actions.specs.CaptureReading.{TakesOn}
 use Rattle.capture_actions.proofs.reading.CaptureReading.take.Given as goal
 
@@ -8,5 +9,5 @@ invariant-loop-turn g l = record {
   within : l.done < length l.piece;
   some : l.turn ≤ l.done;
   space : 30 ≤ g.V.Receiver.room (l.out, l.to);
-  took : TakesOn g.V.Receiver.gets (l.fn.self, (l.fn.out, l.fn.to)) (l.self, (l.out, l.to)) (take l.done l.piece) false;
+  took : TakesOn (takes_read g.V.Receiver.gets) (l.fn.self, (l.fn.out, l.fn.to)) (l.self, (l.out, l.to)) (take l.done l.piece) false;
 }

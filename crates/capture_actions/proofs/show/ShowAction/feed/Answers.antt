@@ -2,18 +2,27 @@ use Rattle.std.proofs.Common.{◌∙◌, ◌++◌, [], List, sym, ap, subst, tak
 use Rattle.capture_actions.specs.Names.{Event, Packet, Plan, placed, report_of}
 use Rattle.capture_actions.specs.CaptureReading as readings
 use Rattle.capture_actions.specs.Filter.{plan_by, HasSeen}
+use Rattle.recovering_machines.specs.HearingLaws.{took_read}
 use Rattle.capture_actions.specs.LineLaws.{lines_append}
+use Rattle.capture_actions.specs.Lister.{gets}
 use Rattle.capture_actions.specs.Listing.{lines_after}
 use Rattle.capture_actions.specs.Show.{plan_of}
 use Rattle.capture_actions.specs.SourceClocks.{AllStand}
 use Rattle.capture_actions.specs.declared.list_plan.ListPlan.{ListPlan}
+use Rattle.capture_actions.proofs.show.ShowAction.feed.Goals.{After-take}
 use Rattle.capture_actions.proofs.show.ShowAction.feed.Goals as goal
+
+took : (c : After-take) →
+    gets (c.args.self.now.lister, c.args.outlet.now) c.take.ensures.reads.0 (c.take.new.out, c.take.new.to)
+took c =
+    took_read gets (c.args.self.now.lister, c.args.outlet.now) (c.take.new.out, c.take.new.to)
+    c.take.ensures.reads.0 c.take.ensures.reads.1
 
 pub returns-clause-same : goal.returns-clause-same
 returns-clause-same c =
     let old = c.args.self.now in
     ap (λ (plan : Plan). plan_by plan c.take.new.out.filter) c.take.ensures.same
-    ∙ ap (λ (p : ListPlan). record { plan = readings.plan_of old.reading; only = p.only; window = p.window }) c.take.ensures.reads.1.asked
+    ∙ ap (λ (p : ListPlan). record { plan = readings.plan_of old.reading; only = p.only; window = p.window }) (took c).asked
 
 pub returns-clause-fed : goal.returns-clause-fed
 returns-clause-fed c = λ seen s.
@@ -24,7 +33,7 @@ returns-clause-fed c = λ seen s.
     let lister = c.take.new.out in
     let next = seen ++ take c.take.result.bytes c.args.piece.now in
     let given = one.reads.0 in
-    let put = one.reads.1 in
+    let put = took c in
     let grew = one.reads.2 seen s.reading in
     let report = report_of p.plan (placed seen) in
     let after = ap (λ (plan : Plan). report_of plan (placed next)) one.same ∙ grew.report in

@@ -25,22 +25,22 @@ returns g c =
     c.cell-cell.ensures ∙ ap (λ (n : ℕ). get_or cells n cell) (let e : index ≡ index + 1 - 1 = omega arith in e) in
     let parts : between index (index + 1) cells ≡ cell ∷ [] =
     between_as index 1 cells ∙ last_parts cells index 1 cell (omega arith) within is in
-    subst (λ (l : List Cell). TakesMapped g.V.Hearer.gets g.V.Hearer.room c.args.id l old new
-    (c.args.out.now, c.args.to.now) (c.hear_answer.new.out, c.hear_answer.new.to)) (sym parts)
-    (mapped_one g.V.Hearer.gets g.V.Hearer.room g.met.V.Hearer.adds_up.none g.met.V.Hearer.adds_up.more c.args.id old new
-    (c.args.out.now, c.args.to.now) (c.hear_answer.new.out, c.hear_answer.new.to) cell c.follow-answer.result
+    subst (λ (l : List Cell). TakesMapped g.V.Receiver.gets g.V.Receiver.room c.args.id l old new
+    (c.args.out.now, c.args.to.now) (c.give_answer.new.out, c.give_answer.new.to)) (sym parts)
+    (mapped_one g.V.Receiver.gets g.V.Receiver.room g.met.V.Receiver.adds_up.none g.met.V.Receiver.adds_up.more c.args.id old new
+    (c.args.out.now, c.args.to.now) (c.give_answer.new.out, c.give_answer.new.to) cell c.follow-answer.result
     c.if-not-self.false refl fed.kind fed.reads fed.list
     (λ r start l k f. same_source guess old.sure sure (cell.at + 1) (with_byte old.sure r cell.at cell.byte) fed.kind
     fed.reads (c.follow-answer.ensures.follows old.sure r start l k (fed.step r k) f))
     (λ r start l k f. c.follow-answer.ensures.said old.sure r start l k (fed.step r k) f)
-    (let s = fed.few in let n = c.follow-answer.ensures.few in omega (arith, s, n)) c.hear_answer.ensures.received
-    c.hear_answer.ensures.room)
+    (let s = fed.few in let n = c.follow-answer.ensures.few in omega (arith, s, n)) c.give_answer.ensures.received
+    c.give_answer.ensures.room)
 
 pub returns-then-not-self : goal.returns-then-not-self
 returns-then-not-self g c =
     let old = c.args.self.now in
     let new : MappedSource = record { sure = c.take_one.new.source; guess = old.guess; guesses = old.guesses } in
-    mapped_sure g.V.Hearer.gets g.V.Hearer.room g.met.V.Hearer.adds_up.none g.met.V.Hearer.adds_up.more c.args.id old new
+    mapped_sure g.V.Receiver.gets g.V.Receiver.room g.met.V.Receiver.adds_up.none g.met.V.Receiver.adds_up.more c.args.id old new
     (c.args.out.now, c.args.to.now) (c.take_one.new.out, c.take_one.new.to)
     (between c.args.index (c.args.index + 1) (g.R.Run.cells c.args.run.now)) c.if-not-self.true refl refl
     c.take_one.ensures

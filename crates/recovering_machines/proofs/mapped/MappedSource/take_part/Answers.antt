@@ -24,11 +24,11 @@ returns-then-found-len-clause-takes g c =
     let cells = g.R.Run.cells c.args.run.now in
     let found = c.take_found-found in
     let more = c.take_others in
-    subst (λ (l : List Cell). TakesMapped g.V.Hearer.gets g.V.Hearer.room c.args.id l c.args.self.now more.new.self
+    subst (λ (l : List Cell). TakesMapped g.V.Receiver.gets g.V.Receiver.room c.args.id l c.args.self.now more.new.self
     (c.args.out.now, c.args.to.now) (more.new.out, more.new.to))
     (sym (between_more c.args.from found.result more.result cells found.ensures.within.0
     (let a = more.ensures.within.0 in omega (arith, a)) more.ensures.within.1))
-    (mapped_then g.V.Hearer.gets g.V.Hearer.room g.met.V.Hearer.adds_up.none g.met.V.Hearer.adds_up.more c.args.id
+    (mapped_then g.V.Receiver.gets g.V.Receiver.room g.met.V.Receiver.adds_up.none g.met.V.Receiver.adds_up.more c.args.id
     c.args.self.now found.new.self more.new.self (c.args.out.now, c.args.to.now) (found.new.out, found.new.to)
     (more.new.out, more.new.to) (between c.args.from found.result cells) (between found.result more.result cells)
     found.ensures.takes more.ensures.takes)

@@ -10,7 +10,7 @@ use Rattle.recovering_machines.proofs.mapped.MappedSource.take_run.Goals as goal
 pub loop-done-init : goal.loop-done-init
 loop-done-init g c = record {
   few = omega arith;
-  takes = mapped_none g.V.Hearer.gets g.V.Hearer.room g.met.V.Hearer.adds_up.none g.met.V.Hearer.adds_up.more c.args.id
+  takes = mapped_none g.V.Receiver.gets g.V.Receiver.room g.met.V.Receiver.adds_up.none g.met.V.Receiver.adds_up.more c.args.id
       c.args.self.now (c.args.out.now, c.args.to.now);
 }
 
@@ -36,11 +36,11 @@ loop-done-preserved g c =
     record {
       few = one.within.1;
       takes =
-          subst (λ (l : List Cell). TakesMapped g.V.Hearer.gets g.V.Hearer.room c.args.id l c.args.self.now
+          subst (λ (l : List Cell). TakesMapped g.V.Receiver.gets g.V.Receiver.room c.args.id l c.args.self.now
           c.take_part-done.new.self (c.args.out.now, c.args.to.now)
           (c.take_part-done.new.out, c.take_part-done.new.to))
           (sym (between_more 0 done next cells (omega arith) (let a = one.within.0 in omega (arith, a)) one.within.1))
-          (mapped_then g.V.Hearer.gets g.V.Hearer.room g.met.V.Hearer.adds_up.none g.met.V.Hearer.adds_up.more c.args.id
+          (mapped_then g.V.Receiver.gets g.V.Receiver.room g.met.V.Receiver.adds_up.none g.met.V.Receiver.adds_up.more c.args.id
           c.args.self.now c.loop-done.self c.take_part-done.new.self (c.args.out.now, c.args.to.now)
           (c.loop-done.out, c.loop-done.to) (c.take_part-done.new.out, c.take_part-done.new.to)
           (between 0 done cells) (between done next cells) i.takes one.takes);
@@ -50,7 +50,7 @@ pub returns : goal.returns
 returns g c =
     let i = c.loop-done.invariant in
     let cells = g.R.Run.cells c.args.run.now in
-    subst (λ (l : List Cell). TakesMapped g.V.Hearer.gets g.V.Hearer.room c.args.id l c.args.self.now
+    subst (λ (l : List Cell). TakesMapped g.V.Receiver.gets g.V.Receiver.room c.args.id l c.args.self.now
     c.loop-done.self (c.args.out.now, c.args.to.now) (c.loop-done.out, c.loop-done.to))
     (take_all c.loop-done.done cells (let t = c.loop-done-test.false in let e = c.len.ensures in omega (arith, t, e)))
     i.takes

@@ -7,7 +7,7 @@ use Rattle.recovering_machines.proofs.mapped.MappedSource.take_run.Given as goal
 abbrev pub invariant-loop-done : goal.invariant-loop-done
 invariant-loop-done g l = record {
   few : l.done ≤ length (g.R.Run.cells l.run);
-  takes : TakesMapped g.V.Hearer.gets g.V.Hearer.room l.id (between 0 l.done (g.R.Run.cells l.run)) l.fn.self l.self
+  takes : TakesMapped g.V.Receiver.gets g.V.Receiver.room l.id (between 0 l.done (g.R.Run.cells l.run)) l.fn.self l.self
       (l.fn.out, l.fn.to) (l.out, l.to);
 }
 

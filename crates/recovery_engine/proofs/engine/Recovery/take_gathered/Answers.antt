@@ -39,15 +39,15 @@ returns g c =
     let p = c.pass_gathered.ensures in
     let runs : Option ℕ → List Part = λ i. map Run (runs_of (cells frame.bytes (frame_places frame) i)) in
     let seen = c.requires in
-    fronted g.V.Hearer.gets g.V.Hearer.room frame c.args.at c.size.result c.args._piece.now self _ seen.here c.size.ensures
+    fronted g.V.Receiver.gets g.V.Receiver.room frame c.args.at c.size.result c.args._piece.now self _ seen.here c.size.ensures
     seen.within seen.is p.plan p.guesses p.next p.adds p.late
-    (subst (λ (l : List RecoveringSlot). Takes g.V.Hearer.gets (runs (id_of self.port))
+    (subst (λ (l : List RecoveringSlot). Takes g.V.Receiver.gets (runs (id_of self.port))
     (l, (c.args.out.now, c.args.to.now)) (
       refill (length passed.slots.items) passed.slots.items c.take_whole.new.slots,
       (c.take_whole.new.out, c.take_whole.new.to),
     )) (ap (λ s. s.items) p.slots)
-    (took g.V.Hearer.gets (runs (id_of self.port)) passed.slots.items c.as_mut_slice.ensures.value
-    c.take_whole.ensures.len (subst (λ (i : Option ℕ). Takes g.V.Hearer.gets (runs i)
+    (took g.V.Receiver.gets (runs (id_of self.port)) passed.slots.items c.as_mut_slice.ensures.value
+    c.take_whole.ensures.len (subst (λ (i : Option ℕ). Takes g.V.Receiver.gets (runs i)
     (c.as_mut_slice.result.now, (c.args.out.now, c.args.to.now))
     (c.take_whole.new.slots, (c.take_whole.new.out, c.take_whole.new.to))) c.id-before.ensures
     c.take_whole.ensures.takes)))

@@ -80,7 +80,7 @@ returns g c =
     piece_bare run.at (bytes_in run)
     ∙ ap (λ (b : List ℕ). map bare_cell (placed_from at b)) (sym all_bytes) in
     let bare = c.requires.bare in
-    let takes = took g.V.Hearer.gets (singles cells) self.slots.items c.as_mut_slice.ensures.value
+    let takes = took g.V.Receiver.gets (singles cells) self.slots.items c.as_mut_slice.ensures.value
     c.take_each.ensures.len c.take_each.ensures.takes in
     let now : Kept = record {
       port = self.port;
@@ -104,11 +104,11 @@ returns g c =
       guesses = refl;
       next = refl;
       list = λ u k.
-          stands_after g.V.Hearer.gets self (singles cells) takes u (u ++ w) k _ refl refl refl (adds u k);
+          stands_after g.V.Receiver.gets self (singles cells) takes u (u ++ w) k _ refl refl refl (adds u k);
       given = (
         takes.0,
         takes.1,
-        λ u k. report_after g.V.Hearer.gets self (singles cells) takes u (u ++ w) k now (adds u k),
+        λ u k. report_after g.V.Receiver.gets self (singles cells) takes u (u ++ w) k now (adds u k),
       );
       late = λ framed. absurd (framed bare);
       room = (let a = c.take_each.ensures.room in let b = piece_length run in omega (arith, a, b));

@@ -8,7 +8,7 @@ returns g c =
     let piece = c.args.piece.now in
     let count = c.min-count.result in
     let within : count ≤ length piece = (let m = c.min-count.ensures in grind (arith, nat_tests)) in
-    front_of g.V.Hearer.gets g.V.Hearer.room c.args.at piece (take count c.padded-ahead.result) count
+    front_of g.V.Receiver.gets g.V.Receiver.room c.args.at piece (take count c.padded-ahead.result) count
     c.take_piece.result (c.args.self.now, (c.args.out.now, c.args.to.now))
     (c.take_piece.new.self, (c.take_piece.new.out, c.take_piece.new.to)) within c.padded-ahead.ensures
     c.take_piece.ensures

@@ -25,7 +25,7 @@ returns g c =
     let size = length-take-le port.result.bytes c.args.piece.now port.ensures.bytes.1 in
     let cells = c.as_slice-cells.result.now in
     let more : List Part = parts_by 0 (at + (port.result.bytes - 1)) port.result.step cells in
-    let takes = took g.V.Hearer.gets more self.slots.items c.as_mut_slice.ensures.value c.take_step.ensures.len
+    let takes = took g.V.Receiver.gets more self.slots.items c.as_mut_slice.ensures.value c.take_step.ensures.len
     c.take_step.ensures.takes in
     let now : Kept = record {
       port = port.new.self;
@@ -57,11 +57,11 @@ returns g c =
       plan = refl;
       guesses = refl;
       next = refl;
-      list = λ u k. stands_after g.V.Hearer.gets self more takes u (u ++ w) k _ refl refl refl (adds u k);
+      list = λ u k. stands_after g.V.Receiver.gets self more takes u (u ++ w) k _ refl refl refl (adds u k);
       given = (
         takes.0,
         takes.1,
-        λ u k. report_after g.V.Hearer.gets self more takes u (u ++ w) k now (adds u k),
+        λ u k. report_after g.V.Receiver.gets self more takes u (u ++ w) k now (adds u k),
       );
       late = λ m u k. framed_late self.port at bytes port.result.step port.new.out.items port.ensures.fed port.ensures.cells
           plan.frames u m k.port;

@@ -16,7 +16,7 @@ use Rattle.recovery_report.specs.Report.{report}
 use Rattle.recovery_engine.specs.Heard.{HasHeard}
 use Rattle.recovery_listing.specs.Account.{read_by}
 use Rattle.recovery_listing.specs.Counting.{HasTallied, plan_of}
-use Rattle.recovery_listing.specs.Listing.{seen_in}
+use Rattle.recovering_machines.specs.Hearing.{seen_in}
 use Rattle.recovery_listing.specs.SureLaws.{events_sure}
 use Rattle.recovery_listing.proofs.kinds.KindTallyAccount.finish.Goals as goal
 

@@ -3,7 +3,7 @@ use Rattle.capture_actions.specs.KindLines.{line_of, parts_by}
 use Rattle.recovery_listing.specs.Account.{Pages}
 use Rattle.recovery_listing.specs.HeardKinds as counts
 use Rattle.recovery_listing.specs.KindTally.{gets, last_of}
-use Rattle.recovery_listing.proofs.Kinded.{still_paid}
+use Rattle.recovery_listing.proofs.Paid.{still_paid}
 use Rattle.recovery_listing.proofs.Taken.{takes_on}
 use Rattle.recovery_listing.proofs.kinds.KindTallyAccount.take.Goals as goal
 

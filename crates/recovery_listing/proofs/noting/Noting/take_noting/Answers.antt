@@ -1,5 +1,6 @@
 use Rattle.std.proofs.Common.{◌∙◌, ◌++◌, ℕ, List, ap}
 use Rattle.recovery_report.specs.Report.{sure_events}
+use Rattle.recovering_machines.specs.Hearing.{takes_read}
 use Rattle.recovery_listing.specs.FaultLines.{fault_lines}
 use Rattle.recovery_listing.specs.Noting.{NotesGets, NotingGets, room}
 use Rattle.recovery_listing.proofs.Taken.{takes_on}
@@ -9,8 +10,8 @@ pub returns-clause-on : goal.returns-clause-on
 returns-clause-on g c =
     let old = c.args.self.now in
     let mid = c.take-bytes.new.out in
-    takes_on (λ a es b. NotingGets g.R.Receiver.gets a es b) (λ s. room g.R.Receiver.room s)
-    (NotesGets g.R.Receiver.gets) c.next-at.result c.args.piece.now c.take-bytes.result c.args.engine.now
+    takes_on (λ a es b. NotingGets (takes_read g.R.Receiver.gets) a es b) (λ s. room g.R.Receiver.room s)
+    (NotesGets (takes_read g.R.Receiver.gets)) c.next-at.result c.args.piece.now c.take-bytes.result c.args.engine.now
     c.take-bytes.new.self (old, c.args.outlet.now) (mid, c.take-bytes.new.to)
     (old, record { text = c.args.outlet.now; notes = c.args.notes.now })
     (record mid { lines = c.swap.new.x }, record { text = c.take-bytes.new.to; notes = c.swap.new.y })

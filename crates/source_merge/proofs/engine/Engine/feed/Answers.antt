@@ -3,6 +3,8 @@ use Rattle.trace_values.specs.Placed.{placed_from}
 use Rattle.source_events.specs.Fitting.{AllFit, PacketFits}
 use Rattle.source_events.specs.declared.event.Event.{Event}
 use Rattle.source_events.specs.declared.packet.Packet.{Packet}
+use Rattle.recovering_machines.specs.Events.{list_gets}
+use Rattle.recovering_machines.specs.HearingLaws.{took_read}
 use Rattle.source_merge.specs.Answering.{Answers, flow_to, goes_on}
 use Rattle.source_merge.specs.Engine.{Stands, plan_of}
 use Rattle.source_merge.specs.Front.{Reads}
@@ -14,10 +16,14 @@ use Rattle.source_merge.proofs.engine.Engine.feed.Goals as goal
 one : (c : After-flow_of) → c.take.result ≡ 1
 one c = (let a = c.take.ensures.takes.bytes in omega arith)
 
+gets : (c : After-flow_of) → list_gets (c.args.out.now, tt) c.take.ensures.reads.0 (c.take.new.out, tt)
+gets c =
+    took_read list_gets (c.args.out.now, tt) (c.take.new.out, tt) c.take.ensures.reads.0 c.take.ensures.reads.1
+
 -- the list has what was given, and nothing else
 given : (c : After-flow_of) → c.take.new.out.items ≡ c.take.ensures.reads.0
 given c =
-    c.take.ensures.reads.1.0 ∙ ap (λ (l : List (Event Packet)). l ++ c.take.ensures.reads.0) c.requires.empty
+    (gets c).0 ∙ ap (λ (l : List (Event Packet)). l ++ c.take.ensures.reads.0) c.requires.empty
 
 pub returns-clause-takes : goal.returns-clause-takes
 returns-clause-takes c =
@@ -34,7 +40,7 @@ returns-clause-takes c =
 
 pub returns-clause-fits : goal.returns-clause-fits
 returns-clause-fits c =
-    subst (λ (l : List (Event Packet)). AllFit PacketFits l) (sym (given c)) c.take.ensures.reads.1.1
+    subst (λ (l : List (Event Packet)). AllFit PacketFits l) (sym (given c)) (gets c).1
 
 pub returns-clause-fed : goal.returns-clause-fed
 returns-clause-fed c = λ u h.

@@ -9,6 +9,8 @@ use Rattle.source_events.specs.declared.packet.Packet.{Packet}
 use Rattle.source_events.specs.declared.plan.Plan.{Plan}
 use Rattle.deformatter.proofs.Blocks.{whole_fed}
 use Rattle.arrayvec.specs.ArrayVec.{array_vec_len}
+use Rattle.recovering_machines.specs.Events.{list_gets}
+use Rattle.recovering_machines.specs.HearingLaws.{took_read}
 use Rattle.source_merge.specs.Answering.{Answers, flow_to, goes_on}
 use Rattle.source_merge.specs.declared.engine.Engine.{Engine}
 use Rattle.source_merge.specs.declared.flow.Fed.{Fed}
@@ -59,17 +61,19 @@ returns-then-not-is_empty-clause-takes c =
 pub returns-then-not-is_empty-clause-fits : goal.returns-then-not-is_empty-clause-fits
 returns-then-not-is_empty-clause-fits c =
     let t = c.take_last-bytes.ensures.fed in
+    let gets = took_read list_gets (c.loop-bytes.out, tt) (c.take_last-bytes.new.out, tt) t.0 t.1 in
     subst (λ (l : List (Event Packet)). AllFit PacketFits l)
-    (sym (t.1.0 ∙ ap (λ (l : List (Event Packet)). l ++ t.0) c.loop-bytes.invariant.empty)) t.1.1
+    (sym (gets.0 ∙ ap (λ (l : List (Event Packet)). l ++ t.0) c.loop-bytes.invariant.empty)) gets.1
 
 pub returns-then-not-is_empty-clause-fed : goal.returns-then-not-is_empty-clause-fed
 returns-then-not-is_empty-clause-fed c =
     let i = c.loop-bytes.invariant in
     let t = c.take_last-bytes.ensures.fed in
+    let gets = took_read list_gets (c.loop-bytes.out, tt) (c.take_last-bytes.new.out, tt) t.0 t.1 in
     subst (λ (f : Flow). GivesLast c.args.self.now c.args.at (take (c.loop-bytes.bytes + c.take_last-bytes.result) c.args.piece.now) f c.take_last-bytes.new.out.items)
     (sym c.flow_of.ensures)
     (subst (λ (l : List (Event Packet)). GivesLast c.args.self.now c.args.at (take (c.loop-bytes.bytes + c.take_last-bytes.result) c.args.piece.now) (flow_to c.take_last-bytes.new.stop) l)
-    (sym (t.1.0 ∙ ap (λ (l : List (Event Packet)). l ++ t.0) i.empty))
+    (sym (gets.0 ∙ ap (λ (l : List (Event Packet)). l ++ t.0) i.empty))
     (fed c.args.self.now c.loop-bytes.self c.take_last-bytes.new.self c.args.at c.loop-bytes.bytes c.args.piece.now (fed_by c.take_last-bytes.result c.take_last-bytes.new.stop) t.0
     i.within i.same i.list i.quiet c.take_last-bytes.ensures.takes t.2))
 
@@ -80,10 +84,11 @@ loop-bytes-preserved c =
     let piece = c.args.piece.now in
     let one = c.take_last-bytes.ensures.takes in
     let t = c.take_last-bytes.ensures.fed in
+    let gets = took_read list_gets (c.loop-bytes.out, tt) (c.take_last-bytes.new.out, tt) t.0 t.1 in
     let m = c.take_last-bytes.result in
     let quiet = Answers (plan_of c.args.self.now) [] Going in
     let empty = none_in c.take_last-bytes.new.out.items (array_vec_len c.take_last-bytes.new.out) refl (sym c.is_empty.ensures ∙ c.if-not-is_empty.false) in
-    let none : t.0 ≡ [] = sym (t.1.0 ∙ ap (λ (l : List (Event Packet)). l ++ t.0) i.empty) ∙ empty in
+    let none : t.0 ≡ [] = sym (gets.0 ∙ ap (λ (l : List (Event Packet)). l ++ t.0) i.empty) ∙ empty in
     let going = going_on (flow_to c.take_last-bytes.new.stop) (sym one.live ∙ c.if-not-self.false) in
     let rest = length-drop n piece in
     let tail = tail_of n piece in

@@ -5,6 +5,7 @@ use Rattle.trace_values.specs.declared.reading_modes.FramesMode.{FramesMode}
 use Rattle.trace_values.specs.declared.reading_modes.FramesMode.TheVariants.{Bare}
 use Rattle.source_events.specs.declared.event.Stop.{Stop}
 use Rattle.source_events.specs.declared.plan.Plan.{Plan}
+use Rattle.recovering_machines.specs.Hearing.{takes_read}
 use Rattle.source_merge.specs.Engine.{plan_of}
 use Rattle.source_merge.specs.declared.engine.Engine.{Engine}
 use Rattle.source_merge.proofs.Taking.{Cut, late, reads_to, takes}
@@ -36,7 +37,7 @@ returns-clause-takes g c =
     let old = c.args.self.now in
     let cut = cut_of old c.args.at h.result c.read_of-bytes.result h.new.stop c.plan.result.now.frames
     (ap (λ (p : Plan). p.frames) (c.plan.ensures ∙ h.ensures.1.plan)) r.bytes r.framed r.going r.stops in
-    takes g.V.Receiver.gets g.V.Receiver.room c.args.at c.args.piece.now h.result c.read_of-bytes.result old
+    takes (takes_read g.V.Receiver.gets) g.V.Receiver.room c.args.at c.args.piece.now h.result c.read_of-bytes.result old
     (c.args.out.now, c.args.to.now) (h.new.out, h.new.to) h.new.stop c.requires.live c.requires.offsets.0 cut _
     h.ensures
     (record { count = refl; next = refl; live = tested h.new.stop c.is_none-self.result c.is_none-self.ensures })
@@ -48,7 +49,7 @@ returns-clause-reads g c =
     let old = c.args.self.now in
     let cut = cut_of old c.args.at h.result c.read_of-bytes.result h.new.stop c.plan.result.now.frames
     (ap (λ (p : Plan). p.frames) (c.plan.ensures ∙ h.ensures.1.plan)) r.bytes r.framed r.going r.stops in
-    reads_to g.V.Receiver.gets g.V.Receiver.room c.args.at c.args.piece.now h.result c.read_of-bytes.result old
+    reads_to (takes_read g.V.Receiver.gets) g.V.Receiver.room c.args.at c.args.piece.now h.result c.read_of-bytes.result old
     (c.args.out.now, c.args.to.now) (h.new.out, h.new.to) h.new.stop c.requires.live c.requires.offsets.0 cut
     h.new.recovery h.new.items h.ensures
 
@@ -59,6 +60,6 @@ returns-clause-late g c =
     let old = c.args.self.now in
     let cut = cut_of old c.args.at h.result c.read_of-bytes.result h.new.stop c.plan.result.now.frames
     (ap (λ (p : Plan). p.frames) (c.plan.ensures ∙ h.ensures.1.plan)) r.bytes r.framed r.going r.stops in
-    late g.V.Receiver.gets g.V.Receiver.room c.args.at c.args.piece.now h.result c.read_of-bytes.result old
+    late (takes_read g.V.Receiver.gets) g.V.Receiver.room c.args.at c.args.piece.now h.result c.read_of-bytes.result old
     (c.args.out.now, c.args.to.now) (h.new.out, h.new.to) h.new.stop c.requires.live c.requires.offsets.0 cut
     h.new.recovery h.new.items h.ensures

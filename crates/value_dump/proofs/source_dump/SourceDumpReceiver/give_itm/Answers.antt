@@ -1,5 +1,5 @@
 use Rattle.std.proofs.Common.{refl}
-use Rattle.source_merge.specs.Receiver.{packet_event}
+use Rattle.recovering_machines.specs.Events.{packet_event}
 use Rattle.value_dump.specs.Names.{Itm}
 use Rattle.value_dump.proofs.source_dump.SourceDumpReceiver.give_itm.Goals as goal
 

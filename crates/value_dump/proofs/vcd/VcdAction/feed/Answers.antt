@@ -6,6 +6,8 @@ use Rattle.value_dump.specs.Names.{source_of}
 use Rattle.value_dump.specs.Dump.{lines_after}
 use Rattle.value_dump.specs.DumpLaws.{packets_append}
 use Rattle.value_dump.specs.Dumping as dumping
+use Rattle.recovering_machines.specs.HearingLaws.{took_read}
+use Rattle.value_dump.specs.SourceDump.{gets}
 use Rattle.value_dump.specs.Vcd.{beginning}
 use Rattle.value_dump.specs.VcdLaws.{dump_grows}
 use Rattle.value_dump.specs.VcdStands.{plan_of}
@@ -21,7 +23,7 @@ returns-clause-fed c = λ seen s.
     let new = one.new.self in
     let bytes = take one.result c.args.piece.now in
     let given = one.ensures.reads.0 in
-    let put = one.ensures.reads.1 in
+    let put = took_read gets (old.source, c.begin.new.outlet) (one.new.out, one.new.to) given one.ensures.reads.1 in
     let list = one.ensures.takes.list (placed seen) s.engine in
     let reads = one.ensures.reads.2 (placed seen) s.engine in
     let same = one.ensures.takes.same in
