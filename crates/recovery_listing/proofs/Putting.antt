@@ -30,6 +30,8 @@ use Rattle.recovery_listing.specs.Lister.{ListerGets, Stands, plan_of}
 use Rattle.recovery_listing.specs.Listing.{clocked_by, clocked_from, has_fault, is_err, line_of}
 use Rattle.recovering_machines.specs.Hearing.{seen_by, seen_in}
 use Rattle.recovery_listing.specs.Near.{guess_clocked, guess_clocked_by, guess_line, near_line}
+use Rattle.recovery_listing.specs.GuessClocks.{Follow, Suit}
+use Rattle.recovery_listing.specs.declared.guess_clocks.GuessClocks.{GuessClocks}
 use Rattle.recovery_listing.specs.declared.lister.RecoveringLister.{RecoveringLister}
 
 abbrev Events : Type 0
@@ -51,16 +53,16 @@ takes_guess clocked e (Raw bytes) g = absurd (cc)
 takes_guess clocked e (Trigger byte) g = absurd (cc)
 
 -- the clocks of guesses take an event that is sure
-module _ (new : SourceClocks) (x : Event Packet) (es : List (Event Packet)) (e : Event (Heard Packet))
+module _ (new : GuessClocks) (x : Event Packet) (es : List (Event Packet)) (e : Event (Heard Packet))
     (what : What Packet) (same : x ≡ as_event e what) where
   what_is : what ≡ x.what
   what_is = ap (λ (y : Event Packet). y.what) (sym same)
 
-  pub lock_taken : (skipped : ℕ) → x.what ≡ Locked skipped → AllStand new (without x.source es) →
-      AllStand new (guess_clocked_by es e (Ok what))
+  pub lock_taken : (skipped : ℕ) → x.what ≡ Locked skipped → Follow new (without x.source es) →
+      Follow new (guess_clocked_by es e (Ok what))
   lock_taken skipped is h =
-      subst (λ w. AllStand new (guess_clocked_by es e (Ok w))) (sym (what_is ∙ is))
-      (subst (λ s. AllStand new (without s es)) (ap (λ (y : Event Packet). y.source) same) h)
+      subst (λ w. Follow new (guess_clocked_by es e (Ok w))) (sym (what_is ∙ is))
+      (subst (λ s. Follow new (without s es)) (ap (λ (y : Event Packet). y.source) same) h)
 
   sure_taken : (w : What Packet) → is_item w ≡ true → guess_clocked_by es e (Ok w) ≡ es ++ as_event e w ∷ []
   sure_taken (Locked skipped) i = absurd (cc)
@@ -68,23 +70,23 @@ module _ (new : SourceClocks) (x : Event Packet) (es : List (Event Packet)) (e :
   sure_taken (Raw bytes) i = refl
   sure_taken (Trigger byte) i = refl
 
-  pub item_taken : is_item x.what ≡ true → AllStand new (es ++ x ∷ []) → AllStand new (guess_clocked_by es e (Ok what))
+  pub item_taken : is_item x.what ≡ true → Follow new (es ++ x ∷ []) → Follow new (guess_clocked_by es e (Ok what))
   item_taken i h =
-      subst (AllStand new) (sym (sure_taken what (ap is_item what_is ∙ i)))
-      (subst (λ y. AllStand new (es ++ y ∷ [])) same h)
+      subst (Follow new) (sym (sure_taken what (ap is_item what_is ∙ i)))
+      (subst (λ y. Follow new (es ++ y ∷ [])) same h)
 
   -- by what the code tests
-  pub notice_taken : (b : Bool) → b ≡ not (is_item x.what) → b ≡ true → AllStand new (without x.source es) →
-      AllStand new (guess_clocked_by es e (Ok what))
+  pub notice_taken : (b : Bool) → b ≡ not (is_item x.what) → b ≡ true → Follow new (without x.source es) →
+      Follow new (guess_clocked_by es e (Ok what))
   notice_taken b q t h = by x.what refl (sym q ∙ t) where
-    by : (w : What Packet) → x.what ≡ w → not (is_item w) ≡ true → AllStand new (guess_clocked_by es e (Ok what))
+    by : (w : What Packet) → x.what ≡ w → not (is_item w) ≡ true → Follow new (guess_clocked_by es e (Ok what))
     by (Locked skipped) is i = lock_taken skipped is h
     by (Said packet) is i = absurd (cc)
     by (Raw bytes) is i = absurd (cc)
     by (Trigger byte) is i = absurd (cc)
 
-  pub other_taken : (b : Bool) → b ≡ not (is_item x.what) → b ≡ false → AllStand new (es ++ x ∷ []) →
-      AllStand new (guess_clocked_by es e (Ok what))
+  pub other_taken : (b : Bool) → b ≡ not (is_item x.what) → b ≡ false → Follow new (es ++ x ∷ []) →
+      Follow new (guess_clocked_by es e (Ok what))
   other_taken b q f h = item_taken (by (is_item x.what) (sym q ∙ f)) h where
     by : (i : Bool) → not i ≡ false → i ≡ true
     by true n = refl
@@ -135,21 +137,23 @@ module _ (old new : RecoveringLister) (a b : List ℕ) (e : Event (Heard Packet)
         line_is before false sure (l ∙ ap (λ o. a ++ line_of p (sure_events before) e o) (sym q))
 
     pub event_put : (what : What Packet) → as_strict e.what ≡ Ok what → new.is_faulty ≡ old.is_faulty →
-        ((es : List (Event Packet)) → AllStand old.guess_clocks es →
-        AllStand new.guess_clocks (guess_clocked_by es e (Ok what))) →
+        ((es : List (Event Packet)) → Follow old.guess_clocks es →
+        Follow new.guess_clocks (guess_clocked_by es e (Ok what))) →
+        new.guess_clocks.kept ≡ old.guess_clocks.kept →
         strict.gets (old.lister, a) (as_event e what ∷ []) (new.lister, b) → ListerGets (old, a) (e ∷ []) (new, b)
-    event_put what q kept beside g = record {
+    event_put what q kept beside follow g = record {
       same = g.asked;
+      kept = follow;
       stands = λ before h. record {
         clocks = subst (λ (l : List (Event Packet)). AllStand new.lister.clocks l) (sym (clocked before (Ok what) q))
             (g.clocks (clocked_from [] (sure_events before)) h.clocks);
-        guesses = subst (λ (l : List (Event Packet)). AllStand new.guess_clocks l) (sym (guessed before (Ok what) q))
+        guesses = subst (λ (l : List (Event Packet)). Follow new.guess_clocks l) (sym (guessed before (Ok what) q))
             (beside (guess_clocked before) h.guesses);
         seen = subst (λ (l : List (Event Packet)). HasSeen new.lister.filter l) (sym (seen before (Ok what) q))
             (g.seen (seen_in (sure_events before)) h.seen);
         faulty = kept ∙ h.faulty ∙ sym (found before (Ok what) q ∙ or-false (has_fault (sure_events before)));
       };
-      text = λ before h. sure_line before (Ok what) q
+      text = λ before h n. sure_line before (Ok what) q
           (g.text (clocked_from [] (sure_events before)) (seen_in (sure_events before)) h.clocks h.seen
           ∙ ap (λ (l : List ℕ). a ++ l)
           (append-nil (line_by p (clocked_from [] (sure_events before)) (seen_in (sure_events before))
@@ -165,19 +169,20 @@ module _ (old new : RecoveringLister) (a b : List ℕ) (e : Event (Heard Packet)
         b ≡ a ++ fault_line (is_stp old.lister.plan e.source) (place_of e, (reason, e.source)) →
         ListerGets (old, a) (e ∷ []) (new, b)
     fault_put reason q is beside plan filter clocks line = record {
+      kept = ap (λ (c : GuessClocks). c.kept) beside;
       same = ap (λ (x : Plan). plan_by x new.lister.filter) plan
           ∙ ap (λ (f : Filter). plan_by old.lister.plan f) filter;
       stands = λ before h. record {
         clocks = subst (λ (l : List (Event Packet)). AllStand new.lister.clocks l)
             (sym (clocked before (Err reason) q)) (clocks (clocked_from [] (sure_events before)) h.clocks);
-        guesses = subst (λ (l : List (Event Packet)). AllStand new.guess_clocks l) (sym (guessed before (Err reason) q))
-            (subst (λ (c : SourceClocks). AllStand c (guess_clocked before)) (sym beside) h.guesses);
+        guesses = subst (λ (l : List (Event Packet)). Follow new.guess_clocks l) (sym (guessed before (Err reason) q))
+            (subst (λ (c : GuessClocks). Follow c (guess_clocked before)) (sym beside) h.guesses);
         seen = subst (λ (l : List (Event Packet)). HasSeen new.lister.filter l)
             (sym (seen before (Err reason) q ∙ append-nil (seen_in (sure_events before))))
             (subst (λ (f : Filter). HasSeen f (seen_in (sure_events before))) (sym filter) h.seen);
         faulty = is ∙ sym (found before (Err reason) q ∙ or-true (has_fault (sure_events before)));
       };
-      text = λ before h. sure_line before (Err reason) q line;
+      text = λ before h n. sure_line before (Err reason) q line;
     }
 
   -- A guess: the lister takes nothing.
@@ -190,7 +195,7 @@ module _ (old new : RecoveringLister) (a b : List ℕ) (e : Event (Heard Packet)
     asked : plan_of new ≡ p
     asked = ap (λ (x : Plan). plan_by x new.lister.filter) plan ∙ ap (λ (f : Filter). plan_by old.lister.plan f) filter
 
-    stands_on : (before : Events) → Stands old before → AllStand new.guess_clocks (guess_clocked (before ++ e ∷ [])) →
+    stands_on : (before : Events) → Stands old before → Follow new.guess_clocks (guess_clocked (before ++ e ∷ [])) →
         Stands new (before ++ e ∷ [])
     stands_on before h taken = record {
       clocks = subst (λ (l : Events). AllStand new.lister.clocks (clocked_from [] l)) (sym (still before))
@@ -207,18 +212,28 @@ module _ (old new : RecoveringLister) (a b : List ℕ) (e : Event (Heard Packet)
         guessed before (as_strict e.what) refl ∙ takes_guess (guess_clocked before) e e.what guess
         ∙ ap (guess_taken (guess_clocked before) e) q
 
+    -- a guess suits only clocks that are kept
+    followed : (clocked : List (Event Packet)) → (kept : Bool) → Suit kept (e ∷ []) →
+        (kept ≡ true → AllStand old.guess_clocks.clocks clocked) → AllStand old.guess_clocks.clocks clocked
+    followed clocked true n h = h refl
+    followed clocked false n h = (let k = sym guess ∙ n.0 in cc)
+
     pub guess_put : (what : What Packet) → as_strict e.what ≡ Ok what →
-        ((es : List (Event Packet)) → AllStand old.guess_clocks es →
-        AllStand new.guess_clocks (es ++ as_event e what ∷ [])) →
-        ((clocked seen : List (Event Packet)) → AllStand old.guess_clocks clocked → HasSeen old.lister.filter seen →
+        new.guess_clocks.kept ≡ old.guess_clocks.kept →
+        ((es : List (Event Packet)) → AllStand old.guess_clocks.clocks es →
+        AllStand new.guess_clocks.clocks (es ++ as_event e what ∷ [])) →
+        ((clocked seen : List (Event Packet)) → AllStand old.guess_clocks.clocks clocked →
+        HasSeen old.lister.filter seen →
         b ≡ a ++ guess_by p clocked seen (as_event e what)) → ListerGets (old, a) (e ∷ []) (new, b)
-    guess_put what q taken line = record {
+    guess_put what q follow taken line = record {
       same = asked;
+      kept = follow;
       stands = λ before h. stands_on before h
-          (subst (λ (l : List (Event Packet)). AllStand new.guess_clocks l) (sym (takes before (Ok what) q))
-          (taken (guess_clocked before) h.guesses));
-      text = λ before h. line_is before true guess
-          (line (guess_clocked before) (seen_in (sure_events before)) h.guesses h.seen
+          (subst (λ (l : List (Event Packet)). Follow new.guess_clocks l) (sym (takes before (Ok what) q))
+          (λ k. taken (guess_clocked before) (h.guesses (sym follow ∙ k))));
+      text = λ before h n. line_is before true guess
+          (line (guess_clocked before) (seen_in (sure_events before))
+          (followed (guess_clocked before) old.guess_clocks.kept n h.guesses) h.seen
           ∙ ap (λ o. a ++ guess_line p before e o) (sym q));
     }
 
@@ -227,8 +242,9 @@ module _ (old new : RecoveringLister) (a b : List ℕ) (e : Event (Heard Packet)
         ListerGets (old, a) (e ∷ []) (new, b)
     misread_put reason q same line = record {
       same = asked;
+      kept = ap (λ (c : GuessClocks). c.kept) same;
       stands = λ before h. stands_on before h
-          (subst (λ (l : List (Event Packet)). AllStand new.guess_clocks l) (sym (takes before (Err reason) q))
-          (subst (λ (c : SourceClocks). AllStand c (guess_clocked before)) (sym same) h.guesses));
-      text = λ before h. line_is before true guess (line ∙ ap (λ o. a ++ guess_line p before e o) (sym q));
+          (subst (λ (l : List (Event Packet)). Follow new.guess_clocks l) (sym (takes before (Err reason) q))
+          (subst (λ (c : GuessClocks). Follow c (guess_clocked before)) (sym same) h.guesses));
+      text = λ before h n. line_is before true guess (line ∙ ap (λ o. a ++ guess_line p before e o) (sym q));
     }

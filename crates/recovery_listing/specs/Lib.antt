@@ -4,6 +4,7 @@ pub mod Near
 pub mod Marked
 pub mod Summary
 pub mod LineLaws
+pub mod GuessClocks
 pub mod Lister
 pub mod ListerLaws
 pub mod Account

@@ -11,6 +11,7 @@ use Rattle.capture_actions.specs.Lister as strict
 use Rattle.capture_actions.specs.SourceClocks.{AllStand}
 use Rattle.recovery_listing.specs.Listing.{clocked_from, has_fault}
 use Rattle.recovering_machines.specs.Hearing.{seen_in}
+use Rattle.recovery_listing.specs.GuessClocks.{Follow, Suit}
 use Rattle.recovery_listing.specs.Near.{guess_clocked, near_lines_after}
 use Rattle.recovery_listing.specs.declared.lister.RecoveringLister.{RecoveringLister}
 
@@ -22,16 +23,18 @@ plan_of lister = plan_by lister.lister.plan lister.lister.filter
 -- them; its clocks of guesses have taken the guesses too.
 pub record Stands (lister : RecoveringLister) (es : List (Event (Heard Packet))) : Type 0 where
   pub clocks : AllStand lister.lister.clocks (clocked_from [] (sure_events es))
-  pub guesses : AllStand lister.guess_clocks (guess_clocked es)
+  pub guesses : Follow lister.guess_clocks (guess_clocked es)
   pub seen : HasSeen lister.lister.filter (seen_in (sure_events es))
   pub faulty : lister.is_faulty ≡ has_fault (sure_events es)
 
--- It put the lines of these events, which follow all that it stands for. An outlet's value is the list of its bytes.
+-- It put the lines of these events, which follow all that it stands for; of guesses, where they are asked for. An
+-- outlet's value is the list of its bytes.
 pub record ListerGets (old : RecoveringLister × List ℕ) (es : List (Event (Heard Packet)))
     (new : RecoveringLister × List ℕ) : Type 0 where
   pub same : plan_of new.0 ≡ plan_of old.0
+  pub kept : new.0.guess_clocks.kept ≡ old.0.guess_clocks.kept
   pub stands : (before : List (Event (Heard Packet))) → Stands old.0 before → Stands new.0 (before ++ es)
-  pub text : (before : List (Event (Heard Packet))) → Stands old.0 before →
+  pub text : (before : List (Event (Heard Packet))) → Stands old.0 before → Suit old.0.guess_clocks.kept es →
       new.1 ≡ old.1 ++ near_lines_after (plan_of old.0) before es
 
 abbrev pub gets : RecoveringLister × List ℕ → List (Event (Heard Packet)) → RecoveringLister × List ℕ → Type 0

@@ -21,9 +21,10 @@ with_plan plan p = record { plan = plan; only = p.only; window = p.window }
 abbrev pub asked : RecoveringLister → GoingOn Plan → GoingOn ListPlan
 asked l how = record { plan = with_plan how.plan (lister.plan_of l); guesses = how.guesses }
 
--- it lists by the plan that is read by, and has taken the events of these bytes
+-- it lists by the plan that is read by, with guesses where they are read, and has taken the events of these bytes
 pub record HasListed (l : RecoveringLister) (how : GoingOn Plan) (seen : List ℕ) : Type 0 where
   pub plan : (lister.plan_of l).plan ≡ how.plan
+  pub guesses : l.guess_clocks.kept ≡ how.guesses
   pub events : lister.Stands l (events_of how seen)
 
 -- the lines of these events were put, and nothing was noted

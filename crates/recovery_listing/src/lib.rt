@@ -7,6 +7,7 @@ mod account;
 mod check;
 mod counting;
 mod going_on;
+mod guess_clocks;
 mod heard_kinds;
 mod kinds;
 pub mod laws;

@@ -1,17 +1,13 @@
 //! What puts the lines of a recovering report into an outlet, as its events come.
 
-ghost use Rattle.std.specs.Prelude.{◌≡◌, ◌+◌, ◌<◌, ◌≤◌, ◌++◌, ◌∷◌, [], List, Ok, Some, false, true, not};
+ghost use Rattle.std.specs.Prelude.{◌≡◌, [], List};
 ghost use Rattle.source_events.specs.declared.event.Event.{Event};
-ghost use Rattle.source_events.specs.declared.event.What.{What};
 ghost use Rattle.source_events.specs.declared.packet.Packet.{Packet};
-ghost use Rattle.source_events.specs.Fitting.{EventFits, PacketFits};
-ghost use Rattle.source_events.specs.Report.{is_item};
 ghost use Rattle.stretch_readings.specs.declared.heard.Heard.{Heard};
-ghost use Rattle.recovering_machines.specs.Hearing.{as_event, as_strict, is_guess};
-ghost use Rattle.capture_actions.specs.SourceClocks.{AllStand};
-ghost use Rattle.recovery_listing.specs.Near.{guess_clocked_by};
+ghost use Rattle.recovering_machines.specs.Hearing.{is_guess};
 
-use capture_actions::{Lister, SourceClocks};
+use crate::guess_clocks::GuessClocks;
+use capture_actions::Lister;
 use item_tap::{Bounds, Choices};
 use itm_grammar::packet::ItmPacket;
 use recovering_machines::{Receiver, strictly};
@@ -25,8 +21,7 @@ use trace_values::{Fault, SourceId};
 #[derive(Drop)]
 pub struct RecoveringLister {
     lister: Lister,
-    /// The clocks of guesses. They take what is sure, too, and go on over a fault.
-    guess_clocks: SourceClocks,
+    guess_clocks: GuessClocks,
     /// A fault came that is no guess.
     is_faulty: bool,
 }
@@ -38,27 +33,6 @@ fn is_guess(what: &What<Heard<Packet>>) -> bool
     matches!(what, What::Packet(Heard::Guessed(_) | Heard::Misread(_)))
 }
 
-/// It is the notice of a lock, and no item.
-fn is_lock(what: &What<Packet>) -> bool
-    ensures { result ≡ not (is_item what.now) }
-{
-    matches!(what, What::Locked(_))
-}
-
-/// The clocks of guesses take an event that is sure: at the lock of a source its clocks begin anew, at one of the port
-/// those of all.
-fn take_sure(clocks: &mut SourceClocks, event: &Event<Packet>)
-    requires fits { EventFits PacketFits event.now }
-    ensures { (es : List (Event Packet)) (e : Event (Heard Packet)) (what : What Packet) →
-        event.now ≡ as_event e what → AllStand clocks.old es → AllStand clocks.new (guess_clocked_by es e (Ok what)) }
-{
-    if is_lock(&event.what) {
-        clocks.renew(event.source);
-    } else {
-        let _ = clocks.remark(event);
-    }
-}
-
 impl RecoveringLister {
     ghost use Rattle.item_tap.specs.declared.bounds.Bounds.{Bounds};
     ghost use Rattle.item_tap.specs.declared.choice.Choice.{Choice};
@@ -67,14 +41,20 @@ impl RecoveringLister {
     ghost use Rattle.recovery_listing.specs.Listing.{has_fault};
 
     /// No event came yet. It lists those of a capture that is read so which meet one of some choices, if there are any,
-    /// and are within a window, if there is one.
-    pub fn new(plan: &Plan, only: Option<Choices>, window: Option<Bounds>) -> RecoveringLister
+    /// and are within a window, if there is one. Guesses come among them or not.
+    pub fn new(
+        plan: &Plan,
+        only: Option<Choices>,
+        window: Option<Bounds>,
+        guesses: bool,
+    ) -> RecoveringLister
+        ensures guesses { result.guess_clocks.kept ≡ guesses }
         ensures plan { plan_of result ≡ record { plan = plan.now; only = only; window = window } }
         ensures stands { Stands result [] }
     {
         RecoveringLister {
             lister: Lister::new(plan, only, window),
-            guess_clocks: SourceClocks::new(),
+            guess_clocks: GuessClocks::new(guesses),
             is_faulty: false,
         }
     }
@@ -118,9 +98,9 @@ impl Receiver for RecoveringLister {
                 };
                 if guess {
                     self.lister
-                        .put_guess(outlet, &mut self.guess_clocks, &event);
+                        .put_guess(outlet, &mut self.guess_clocks.clocks, &event);
                 } else {
-                    take_sure(&mut self.guess_clocks, &event);
+                    self.guess_clocks.take_sure(&event);
                     self.lister.put_seldom(outlet, event);
                 }
             }
@@ -156,7 +136,7 @@ impl Receiver for RecoveringLister {
         source: SourceId,
         packet: ItmPacket,
     ) {
-        let _ = self.guess_clocks.packet_remark(source, &packet);
+        self.guess_clocks.take_packet(source, &packet);
         self.lister.give_itm(outlet, at, half, source, packet);
     }
 

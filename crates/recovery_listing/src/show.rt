@@ -27,7 +27,7 @@ impl Recovering<RecoveringLister> {
         let GoingOn { plan, guesses } = plan;
         let only = plan.only;
         Recovering {
-            account: RecoveringLister::new(&plan.plan, only, plan.window),
+            account: RecoveringLister::new(&plan.plan, only, plan.window, guesses),
             engine: Recovery::new(plan.plan, guesses),
         }
     }

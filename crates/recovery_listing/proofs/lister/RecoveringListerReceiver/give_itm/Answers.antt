@@ -12,6 +12,6 @@ returns-clause-gets c =
     let e = read_event c.args.source c.args.at c.args.half (Itm packet) in
     let what = Said (Itm packet) in
     event_put old
-    (record { lister = c.give_itm.new.self; guess_clocks = c.packet_remark.new.self; is_faulty = old.is_faulty })
+    (record { lister = c.give_itm.new.self; guess_clocks = c.take_packet.new.self; is_faulty = old.is_faulty })
     c.args.outlet.now c.give_itm.new.outlet e refl what refl refl
-    (λ es h. c.packet_remark.ensures.stand es (as_event e what) refl refl h) c.give_itm.ensures.gets
+    (λ es h. c.take_packet.ensures.taken es (as_event e what) refl refl h) c.take_packet.ensures.kept c.give_itm.ensures.gets

@@ -12,4 +12,4 @@ returns-clause-gets c =
     event_put old
     (record { lister = c.give_raw.new.self; guess_clocks = old.guess_clocks; is_faulty = old.is_faulty })
     c.args.outlet.now c.give_raw.new.outlet e refl what refl refl
-    (λ es h. c.pass.ensures es (as_event e what) refl h) c.give_raw.ensures.gets
+    (λ es h. c.pass.ensures es (as_event e what) refl h) refl c.give_raw.ensures.gets

@@ -13,4 +13,4 @@ returns-clause-gets c = λ item is.
     event_put old
     (record { lister = c.give_said.new.self; guess_clocks = old.guess_clocks; is_faulty = old.is_faulty })
     c.args.outlet.now c.give_said.new.outlet e refl what refl refl
-    (λ es h. c.pass.ensures es (as_event e what) refl h) (c.give_said.ensures.gets item is)
+    (λ es h. c.pass.ensures es (as_event e what) refl h) refl (c.give_said.ensures.gets item is)
