@@ -79,24 +79,25 @@ pub record Took {S P : Type 0} (plan : S → P) (stands : S → List ℕ → Typ
 module _ {S P : Type 0} (plan : S → P) (stands : S → List ℕ → Type 0) (meaning : P → Meaning)
     (noted : P → List ℕ → List ℕ) where
   -- no byte
-  pub took_none : (s : S) (before : Pages) → before.notes ≡ [] → Took plan stands meaning noted s s [] before before
-  took_none s before silent = record {
+  pub took_none : (s : S) (before : Pages) → Took plan stands meaning noted s s [] before before
+  took_none s before = record {
     same = refl;
     fed = λ seen h. record {
       read = subst (stands s) (sym (append-nil seen)) h;
       more = [];
       grown = ap (meaning (plan s)).text (append-nil seen) ∙ sym (append-nil ((meaning (plan s)).text seen));
       gained = sym (append-nil before.text);
-      noted = ap (noted (plan s)) (append-nil seen)
-          ∙ sym (ap (λ (l : List ℕ). noted (plan s) seen ++ l) silent ∙ append-nil (noted (plan s) seen));
+      told = [];
+      noted = ap (noted (plan s)) (append-nil seen) ∙ sym (append-nil (noted (plan s) seen));
+      noting = sym (append-nil before.notes);
     };
   }
 
-  -- two fronts, one after the other, of which the first has nothing that is noted
-  pub took_both : (old mid new : S) (front next : List ℕ) (a b c : Pages) → b.notes ≡ [] →
+  -- two fronts, one after the other
+  pub took_both : (old mid new : S) (front next : List ℕ) (a b c : Pages) →
       Took plan stands meaning noted old mid front a b → Took plan stands meaning noted mid new next b c →
       Took plan stands meaning noted old new (front ++ next) a c
-  took_both old mid new front next a b c silent first second = record {
+  took_both old mid new front next a b c first second = record {
     same = second.same ∙ first.same;
     fed = λ seen h.
         let one = first.fed seen h in
@@ -112,9 +113,11 @@ module _ {S P : Type 0} (plan : S → P) (stands : S → List ℕ → Type 0) (m
               ∙ append_assoc (text seen) one.more two.more;
           gained = two.gained ∙ ap (λ (l : List ℕ). l ++ two.more) one.gained
               ∙ append_assoc a.text one.more two.more;
-          noted = ap notes (sym here) ∙ two.noted
-              ∙ ap (λ (l : List ℕ). l ++ c.notes)
-              (one.noted ∙ ap (λ (l : List ℕ). notes seen ++ l) silent ∙ append-nil (notes seen));
+          told = one.told ++ two.told;
+          noted = ap notes (sym here) ∙ two.noted ∙ ap (λ (l : List ℕ). l ++ two.told) one.noted
+              ∙ append_assoc (notes seen) one.told two.told;
+          noting = two.noting ∙ ap (λ (l : List ℕ). l ++ two.told) one.noting
+              ∙ append_assoc a.notes one.told two.told;
         };
   }
 
@@ -125,10 +128,10 @@ module _ {A P : Type 0} (asked : A → GoingOn Plan → P) (account : A → Goin
     (same : (old new : A × Pages) (given : List (Event (Heard Packet))) (how : GoingOn Plan) →
     gets old given new → asked new.0 how ≡ asked old.0 how)
     (goes_on : (old new : A × Pages) (given : List (Event (Heard Packet))) (how : GoingOn Plan)
-    (seen front : List ℕ) → gets old given new → 0 < length front → old.1.notes ≡ [] →
+    (seen front : List ℕ) → gets old given new → 0 < length front →
     events_of how (seen ++ front) ≡ events_of how seen ++ given → account old.0 how seen →
     GoesOn (account new.0 how) (meaning (asked old.0 how)) (noted (asked old.0 how)) seen front old.1 new.1)
-    (old new : Recovering A) (front : List ℕ) (a b : Pages) (some : 0 < length front) (silent : a.notes ≡ [])
+    (old new : Recovering A) (front : List ℕ) (a b : Pages) (some : 0 < length front)
     (on : TakesOn gets front (old.engine, (old.account, a)) (new.engine, (new.account, b))) where
   abbrev plan : Recovering A → P
   plan s = asked s.account (how_of s)
@@ -139,7 +142,7 @@ module _ {A P : Type 0} (asked : A → GoingOn Plan → P) (account : A → Goin
         ∙ same (old.account, a) (new.account, b) on.given.0 (how_of old) on.given.1;
     fed = λ seen s.
         let on_told = goes_on (old.account, a) (new.account, b) on.given.0 (how_of old) seen front on.given.1 some
-        silent (on.given.2 seen s.read) s.told in
+        (on.given.2 seen s.read) s.told in
         record {
           read = record {
             read = on.read seen s.read;
@@ -148,7 +151,9 @@ module _ {A P : Type 0} (asked : A → GoingOn Plan → P) (account : A → Goin
           more = on_told.more;
           grown = on_told.grown;
           gained = on_told.gained;
+          told = on_told.told;
           noted = on_told.noted;
+          noting = on_told.noting;
         };
   }
 

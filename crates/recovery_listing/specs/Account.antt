@@ -39,7 +39,7 @@ pub record TakesOn {S : Type 0} (gets : S → List (Event (Heard Packet)) → S 
       × ((seen : List ℕ) → HasRead old.0 seen →
       events_of (read_by old.0) (seen ++ front) ≡ events_of (read_by old.0) seen ++ given)
 
--- With these bytes after those that were seen, what is written grew by the text that is new, and what is noted is what
+-- With these bytes after those that were seen, what is written grew by the text that is new, and what is noted by what
 -- they add to the notes.
 pub record GoesOn (stands : List ℕ → Type 0) (meaning : Meaning) (notes : List ℕ → List ℕ) (seen front : List ℕ)
     (before after : Pages) : Type 0 where
@@ -47,4 +47,6 @@ pub record GoesOn (stands : List ℕ → Type 0) (meaning : Meaning) (notes : Li
   pub more : List ℕ
   pub grown : meaning.text (seen ++ front) ≡ meaning.text seen ++ more
   pub gained : after.text ≡ before.text ++ more
-  pub noted : notes (seen ++ front) ≡ notes seen ++ after.notes
+  pub told : List ℕ
+  pub noted : notes (seen ++ front) ≡ notes seen ++ told
+  pub noting : after.notes ≡ before.notes ++ told

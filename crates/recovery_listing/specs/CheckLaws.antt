@@ -17,11 +17,11 @@ pub same : (old new : Tally × Pages) (given : List (Event (Heard Packet))) (how
 same old new given how g = refl
 
 pub goes_on : (old new : Tally × Pages) (given : List (Event (Heard Packet))) (how : GoingOn Plan)
-    (seen front : List ℕ) → gets old given new → 0 < length front → old.1.notes ≡ [] →
+    (seen front : List ℕ) → gets old given new → 0 < length front →
     events_of how (seen ++ front) ≡ events_of how seen ++ given → HasCounted old.0 how seen →
     GoesOn (HasCounted new.0 how) (check_meaning (asked old.0 how)) (λ bytes. []) seen front old.1 new.1
-goes_on old new given how seen front g some silent more h =
-    end_goes_on (HasCounted new.0 how) (summary how.plan) seen front old.1 new.1 g.silent silent (record {
+goes_on old new given how seen front g some more h =
+    end_goes_on (HasCounted new.0 how) (summary how.plan) seen front old.1 new.1 g.silent (record {
       sure = h.sure;
       heard = subst (λ (es : List (Event (Heard Packet))). HasHeard new.0.heard es) (sym more)
           (g.heard (events_of how seen) h.heard);

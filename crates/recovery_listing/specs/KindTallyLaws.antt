@@ -20,11 +20,11 @@ pub same : (old new : KindTally × Pages) (given : List (Event (Heard Packet))) 
 same old new given how g = refl
 
 pub goes_on : (old new : KindTally × Pages) (given : List (Event (Heard Packet))) (how : GoingOn Plan)
-    (seen front : List ℕ) → gets old given new → 0 < length front → old.1.notes ≡ [] →
+    (seen front : List ℕ) → gets old given new → 0 < length front →
     events_of how (seen ++ front) ≡ events_of how seen ++ given → HasSorted old.0 how seen →
     GoesOn (HasSorted new.0 how) (kinds_meaning_on (asked old.0 how)) (λ bytes. []) seen front old.1 new.1
-goes_on old new given how seen front g some silent more h =
-    end_goes_on (HasSorted new.0 how) (kinds_summary how.plan) seen front old.1 new.1 g.silent silent (record {
+goes_on old new given how seen front g some more h =
+    end_goes_on (HasSorted new.0 how) (kinds_summary how.plan) seen front old.1 new.1 g.silent (record {
       sure = h.sure;
       plan = g.same ∙ h.plan;
       heard = subst (λ (es : List (Event (Heard Packet))). HasHeard new.0.counts.heard es) (sym more)

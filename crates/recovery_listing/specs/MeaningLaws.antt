@@ -40,12 +40,14 @@ end_lawful ending = record {
 }
 
 pub end_goes_on : (stands : List ℕ → Type 0) (ending : List ℕ → List ℕ) (seen front : List ℕ) (old new : Pages) →
-    new ≡ old → old.notes ≡ [] → stands (seen ++ front) →
+    new ≡ old → stands (seen ++ front) →
     GoesOn stands (at_end ending) (λ bytes. []) seen front old new
-end_goes_on stands ending seen front old new same silent read = record {
+end_goes_on stands ending seen front old new same read = record {
   read = read;
   more = [];
   grown = refl;
   gained = ap (λ (pages : Pages). pages.text) same ∙ sym (append-nil old.text);
-  noted = sym (ap (λ (pages : Pages). pages.notes) same ∙ silent);
+  told = [];
+  noted = refl;
+  noting = ap (λ (pages : Pages). pages.notes) same ∙ sym (append-nil old.notes);
 }

@@ -58,12 +58,12 @@ pub record NotingGets {R : Type 0} (own : (R × List ℕ) → List (Event Packet
   pub lines : new.0.lines ≡ old.0.lines ++ fault_lines (sure_events es)
   pub faulty : new.0.is_faulty ≡ (old.0.is_faulty || has_fault (sure_events es))
 
--- the same with the lines of the faults as notes, where nothing was noted
+-- the same with the lines of the faults after the notes that there were
 pub record NotesGets {R : Type 0} (own : (R × List ℕ) → List (Event Packet) → (R × List ℕ) → Type 0)
     (old : Noting R × Pages) (es : List (Event (Heard Packet))) (new : Noting R × Pages) : Type 0 where
   pub same : new.0.source ≡ old.0.source
   pub receiver : own (old.0.receiver, old.1.text) (with_losses old.0.source es) (new.0.receiver, new.1.text)
-  pub notes : new.1.notes ≡ fault_lines (sure_events es)
+  pub notes : new.1.notes ≡ old.1.notes ++ fault_lines (sure_events es)
   pub faulty : new.0.is_faulty ≡ (old.0.is_faulty || has_fault (sure_events es))
 
 -- an event is given to the receiver once at most, and is one line at most

@@ -1,5 +1,5 @@
 -- How the account of `show` goes on: proofs that its `impl` cites.
-use Rattle.std.proofs.Common.{◌≡◌, ◌<◌, ℕ, List, [], ◌∷◌, ◌++◌, length, sym, ◌∙◌, ap, subst, Bool, true, false}
+use Rattle.std.proofs.Common.{◌≡◌, ◌<◌, ℕ, List, [], ◌∷◌, ◌++◌, length, sym, ◌∙◌, ap, subst, append-nil, refl, Bool, true, false}
 use Rattle.std.specs.List.{list_any}
 use Rattle.std.proofs.lemmas.Bool.{or_parts}
 use Rattle.trace_values.specs.Placed.{placed}
@@ -51,10 +51,10 @@ suits how seen front given more false e =
     (subst (λ (es : List (Event (Heard Packet))). NoGuess es) more (none_of how (seen ++ front) (sym e)))
 
 pub goes_on : (old new : RecoveringLister × Pages) (given : List (Event (Heard Packet))) (how : GoingOn Plan)
-    (seen front : List ℕ) → gets old given new → 0 < length front → old.1.notes ≡ [] →
+    (seen front : List ℕ) → gets old given new → 0 < length front →
     events_of how (seen ++ front) ≡ events_of how seen ++ given → HasListed old.0 how seen →
     GoesOn (HasListed new.0 how) (listing_meaning (asked old.0 how)) (λ bytes. []) seen front old.1 new.1
-goes_on old new given how seen front g some silent more h =
+goes_on old new given how seen front g some more h =
     let own = lister.plan_of old.0 in
     let p = with_plan how.plan own in
     let said = events_of how seen in
@@ -69,5 +69,7 @@ goes_on old new given how seen front g some silent more h =
       grown = ap (near_lines_after p []) more ∙ near_append p [] said given;
       gained = g.listed.text said h.events (suits how seen front given more old.0.guess_clocks.kept h.guesses)
           ∙ ap (λ (plan : Plan). old.1.text ++ near_lines_after (with_plan plan own) said given) h.plan;
-      noted = sym (g.silent ∙ silent);
+      told = [];
+      noted = refl;
+      noting = g.silent ∙ sym (append-nil old.1.notes);
     }

@@ -11,7 +11,7 @@ use Rattle.capture_actions.specs.PortValues as strict
 use Rattle.capture_actions.specs.declared.port_text_plan.PortTextPlan.{PortTextPlan}
 use Rattle.capture_actions.specs.declared.port_values.PortValues.{PortValues}
 use Rattle.recovery_listing.specs.Account.{GoesOn, Pages, events_of}
-use Rattle.recovery_listing.specs.FaultLines.{noted_faults}
+use Rattle.recovery_listing.specs.FaultLines.{fault_lines}
 use Rattle.recovery_listing.specs.Listing.{has_fault}
 use Rattle.recovering_machines.specs.Hearing.{seen_in}
 use Rattle.recovering_machines.specs.HearingLaws.{took_read}
@@ -38,11 +38,11 @@ pub same : (old new : Noting PortValues × Pages) (given : List (Event (Heard Pa
 same old new given how g = ap (by_values how) (put old new given g).0
 
 pub goes_on : (old new : Noting PortValues × Pages) (given : List (Event (Heard Packet))) (how : GoingOn Plan)
-    (seen front : List ℕ) → gets old given new → 0 < length front → old.1.notes ≡ [] →
+    (seen front : List ℕ) → gets old given new → 0 < length front →
     events_of how (seen ++ front) ≡ events_of how seen ++ given → HasPut old.0 how seen →
     GoesOn (HasPut new.0 how) (port_text_meaning (asked old.0 how)) (noted_text (asked old.0 how)) seen front old.1
     new.1
-goes_on old new given how seen front g some silent more h =
+goes_on old new given how seen front g some more h =
     let source = source_of how.plan in
     let port = old.0.receiver.port in
     record {
@@ -57,6 +57,7 @@ goes_on old new given how seen front g some silent more h =
       gained = (put old new given g).1
           ∙ ap (λ (l : List ℕ). old.1.text ++ l) (without_losses old.0.receiver.source port old.0.source given)
           ∙ ap (λ (s : Option ℕ). old.1.text ++ values_in s port (seen_in given)) h.source;
-      noted = noted_more how seen front given more
-          ∙ ap (λ (l : List ℕ). noted_faults how.plan seen ++ l) (sym g.notes);
+      told = fault_lines (sure_events given);
+      noted = noted_more how seen front given more;
+      noting = g.notes;
     }

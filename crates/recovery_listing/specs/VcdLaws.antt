@@ -20,7 +20,7 @@ use Rattle.recovering_machines.specs.HearingLaws.{took_read}
 use Rattle.recovery_listing.specs.Account.{GoesOn, Pages, events_of}
 use Rattle.recovery_listing.specs.Dump.{dump_meaning, noted_dump, packets_in}
 use Rattle.recovery_listing.specs.DumpLaws.{dump_grows, packets_more}
-use Rattle.recovery_listing.specs.FaultLines.{noted_faults}
+use Rattle.recovery_listing.specs.FaultLines.{fault_lines}
 use Rattle.recovery_listing.specs.Listing.{has_fault}
 use Rattle.recovery_listing.specs.Noting.{with_losses}
 use Rattle.recovery_listing.specs.SureLaws.{faulty_more, noted_more}
@@ -103,12 +103,13 @@ module _ (old new : RecoveringDump × Pages) (given : List (Event (Heard Packet)
             ∙ ap (λ (l : List ℕ). (old.1.text ++ l) ++ lines_after hz before (packets_in source given))
             (head_is p.plan seen old.0.is_begun h.begun)
             ∙ append_assoc old.1.text start (lines_after hz before (packets_in source given));
-        noted = noted_more how seen front given more
-            ∙ ap (λ (l : List ℕ). noted_faults how.plan seen ++ l) (sym g.noting.notes);
+        told = fault_lines (sure_events given);
+        noted = noted_more how seen front given more;
+        noting = g.noting.notes;
       }
 
 pub goes_on : (old new : RecoveringDump × Pages) (given : List (Event (Heard Packet))) (how : GoingOn Plan)
-    (seen front : List ℕ) → gets old given new → 0 < length front → old.1.notes ≡ [] →
+    (seen front : List ℕ) → gets old given new → 0 < length front →
     events_of how (seen ++ front) ≡ events_of how seen ++ given → HasDumped old.0 how seen →
     GoesOn (HasDumped new.0 how) (dump_meaning (asked old.0 how)) (noted_dump (asked old.0 how)) seen front old.1 new.1
-goes_on old new given how seen front g some silent more h = goes old new given how seen front g some more h
+goes_on old new given how seen front g some more h = goes old new given how seen front g some more h

@@ -15,7 +15,10 @@ ghost use Rattle.recovery_listing.specs.Listing.{is_faulty};
 ghost use Rattle.recovery_listing.specs.declared.going_on.GoingOn.{GoingOn};
 
 use recovery_engine::Recovery;
-use trace_stream::{ACTION_ROOM, OUTLET_ROOM, Outlet};
+use trace_stream::{ACTION_ROOM, OUTLET_ROOM, Outlet, TEXT_ROOM};
+
+/// Bytes of room for what is noted of a frame: a line for each of 30 events.
+pub(crate) const NOTES_ROOM: usize = 30 * TEXT_ROOM;
 
 /// What is made of a recovering report as its events come: what is written and noted of them, and what is written at
 /// the end. `Recovering` makes an action of it.
@@ -48,7 +51,7 @@ pub trait Account {
         ensures { (how : GoingOn Plan) (seen : List ℕ) → stands self.now how seen → result ≡ is_faulty how.plan seen };
 
     /// Lets the engine take bytes from the front of a piece, and takes the events that they end. Answers how many. The
-    /// piece has a byte, and nothing is noted that was not written.
+    /// piece has a byte, and there is room for what is noted of a frame.
     fn take(
         &mut self,
         engine: &mut Recovery,
@@ -57,9 +60,10 @@ pub trait Account {
         notes: &mut Outlet,
     ) -> usize
         requires live { live self.old (next_of engine.old) }
-        requires idle { (debt self.old ≡ Paid) × (notes.old ≡ []) }
+        requires paid { debt self.old ≡ Paid }
         requires piece { (0 < length piece.now) × (next_of engine.old + length piece.now ≤ GREATEST_CAPTURE) }
         requires room { length outlet.old + ACTION_ROOM ≤ OUTLET_ROOM }
+        requires notes_room { length notes.old + NOTES_ROOM ≤ OUTLET_ROOM }
         ensures front { TakesSome piece.now result }
         ensures live { live self.new (next_of engine.new) }
         ensures paid { debt self.new ≡ Paid }
@@ -100,7 +104,7 @@ pub trait Account {
     // with the events that further bytes add it stands for all of them, and what is written and noted grew by what they
     // add
     ghost goes_on: { (old new : Self × Pages) (given : List (Event (Heard Packet))) (how : GoingOn Plan)
-        (seen front : List ℕ) → gets old given new → 0 < length front → old.1.notes ≡ [] →
+        (seen front : List ℕ) → gets old given new → 0 < length front →
         events_of how (seen ++ front) ≡ events_of how seen ++ given → stands old.0 how seen →
         GoesOn (stands new.0 how) (meaning (asked old.0 how)) (noted (asked old.0 how)) seen front old.1 new.1 };
 }

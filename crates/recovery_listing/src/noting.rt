@@ -9,6 +9,7 @@ ghost use Rattle.recovering_machines.specs.Hearing.{takes_read};
 ghost use Rattle.recovery_listing.specs.Account.{TakesOn};
 ghost use Rattle.recovery_listing.specs.Noting.{NotesGets, is_misread, loser_of};
 
+use crate::account::NOTES_ROOM;
 use itm_grammar::packet::ItmPacket;
 use recovering_machines::{Receiver, as_read, strictly};
 use recovery_engine::Recovery;
@@ -89,7 +90,7 @@ impl<R: Receiver<To = Outlet>> Noting<R> {
     }
 
     /// Lets the engine take bytes from the front of a piece, and takes the events that they end. Answers how many. The
-    /// piece has a byte. The lines of faults become notes, of which there are none.
+    /// piece has a byte. The lines of faults come after the notes that there are.
     pub fn take_noting(
         &mut self,
         engine: &mut Recovery,
@@ -100,7 +101,7 @@ impl<R: Receiver<To = Outlet>> Noting<R> {
         requires live { self.old.lines ≡ [] }
         requires some { 0 < length piece.now }
         requires room { 30 ≤ R.room (self.old.receiver, outlet.old) }
-        requires silent { notes.old ≡ [] }
+        requires notes_room { length notes.old + NOTES_ROOM ≤ OUTLET_ROOM }
         requires count { next_of engine.old + length piece.now ≤ GREATEST_CAPTURE }
         ensures front { TakesSome piece.now result }
         ensures live { self.new.lines ≡ [] }
@@ -108,6 +109,7 @@ impl<R: Receiver<To = Outlet>> Noting<R> {
             (engine.old, (self.old, record { text = outlet.old; notes = notes.old }))
             (engine.new, (self.new, record { text = outlet.new; notes = notes.new })) }
     {
+        std::mem::swap(&mut self.lines, notes);
         let at = engine.next();
         let bytes = engine.take(at, piece, self, outlet);
         std::mem::swap(&mut self.lines, notes);

@@ -4,7 +4,7 @@ ghost use Rattle.std.specs.Prelude.{◌≡◌, ◌+◌, ◌≤◌, [], ℕ, List
 ghost use Rattle.recovery_listing.specs.Listing.{is_faulty};
 ghost use Rattle.recovery_listing.specs.Recovering.{Stands, how_of};
 
-use crate::account::Account;
+use crate::account::{Account, NOTES_ROOM};
 use recovery_engine::Recovery;
 use trace_stream::{ACTION_ROOM, Action, OUTLET_ROOM, Outlet, Progress};
 
@@ -15,13 +15,13 @@ pub struct Recovering<A> {
     pub(crate) account: A,
 }
 
-/// There is room for what a frame adds, and nothing is to be noted first.
+/// There is room for what a frame adds, and for what is noted of it.
 fn may_go_on(outlet: &Outlet, notes: &Outlet) -> bool
     ensures room { IsTrue result → length outlet.now + ACTION_ROOM ≤ OUTLET_ROOM }
-    ensures silent { IsTrue result → notes.now ≡ [] }
+    ensures notes_room { IsTrue result → length notes.now + NOTES_ROOM ≤ OUTLET_ROOM }
     ensures both { length outlet.now + ACTION_ROOM ≤ OUTLET_ROOM → notes.now ≡ [] → IsTrue result }
 {
-    outlet.len() <= OUTLET_ROOM - ACTION_ROOM && notes.len() == 0
+    outlet.len() <= OUTLET_ROOM - ACTION_ROOM && notes.len() <= OUTLET_ROOM - NOTES_ROOM
 }
 
 impl<A: Account> Recovering<A> {
@@ -60,7 +60,7 @@ impl<A: Account> Action for Recovering<A> {
         self.account.pour(outlet)
     }
 
-    /// Takes bytes while the outlet has room for what a frame adds and nothing is to be noted.
+    /// Takes bytes while there is room for what a frame adds, and for what is noted of it.
     fn feed(&mut self, piece: &[u8], outlet: &mut Outlet, notes: &mut Outlet) -> Progress {
         let mut done = 0;
         while done < piece.len() && may_go_on(outlet, notes) {

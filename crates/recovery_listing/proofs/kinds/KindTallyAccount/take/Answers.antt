@@ -21,4 +21,4 @@ returns-clause-paid c =
     let old = c.args.self.now in
     still_paid (parts_by (line_of old.plan old.counts.kinds old.lines) (last_of old.tails) old.lines.left)
     (parts_by (line_of old.plan c.take-taken.new.out.kinds old.lines) (last_of old.tails) old.lines.left)
-    old.lines.left c.requires.idle.0
+    old.lines.left c.requires.paid
