@@ -3,13 +3,17 @@
 ghost use Rattle.std.specs.Prelude.{◌≡◌, ◌≤◌, ◌<◌, ◌+◌, ◌*◌, ◌++◌, ◌∷◌, [], ℕ, List, length, IfOk};
 ghost use Rattle.std.specs.List.{All};
 ghost use Rattle.port_formatter.specs.Names.{Tagged, Appends, Ends, IsSure, count_of, owing, Pours, COUNT_ROOM};
+ghost use Rattle.trace_stream.specs.declared.action.TheConstants.{ACTION_ROOM};
 
 use arrayvec::ArrayVec;
 use circular_buffer::HeapCircularBuffer;
 use frame_writer::{SureWriter, TwoFrames};
 use std::alloc::{AllocError, Global};
 use trace_funnel::Tagged;
-use trace_stream::{ACTION_ROOM, OUTLET_ROOM, Outlet};
+use trace_stream::{OUTLET_ROOM, Outlet};
+
+/// How many bytes are given at once at most. A line of a script makes few, and more come with the next turns.
+const PART: usize = 256;
 
 /// Frames of which what becomes sure is kept in a ring, until it is given.
 #[derive(Drop)]
@@ -107,7 +111,7 @@ impl RingFrames {
         self.keep(&mut sure);
     }
 
-    /// Moves the first of the kept bytes to the outlet, as many as a call may put, and answers whether there were any.
+    /// Moves the first of the kept bytes to the outlet, at most `PART` of them, and answers whether there were any.
     /// Apart, so that frames that bytes come to straight need no room for it.
     #[inline(never)]
     pub fn give(&mut self, outlet: &mut Outlet) -> bool
@@ -121,7 +125,7 @@ impl RingFrames {
         if self.kept.is_empty() {
             return false;
         }
-        let mut bytes = [0; ACTION_ROOM];
+        let mut bytes = [0; PART];
         let count = self.kept.read_into(&mut bytes);
         outlet.append(&bytes[..count]);
         true
