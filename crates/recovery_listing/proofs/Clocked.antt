@@ -96,22 +96,23 @@ module _ (w : ItmPacket → ℕ) (most : ℕ) (small : (n : ℕ) (p : ItmPacket)
   guessed_less (ItmOf p) = omega arith
   guessed_less (StpOf item) = omega arith
 
-  -- the events that are read
-  seen_less : (es : Heards) → total strict_weight (seen_in es) ≤ total weight es
-  seen_less es = total-flat weight strict_weight (λ e. seen_by e (as_strict e.what)) es (λ e. by e e.what) where
-    read : (e : Event (Heard Packet)) (what : What Packet) (n : ℕ) → strict_what what ≤ n →
-        total strict_weight (as_event e what ∷ []) ≤ cond (is_of (Some x) e.source) n 0
-    read e what n h = let k = read_less e what n h in omega arith
+  one_less : (e : Event (Heard Packet)) (what : What Packet) (n : ℕ) → strict_what what ≤ n →
+      total strict_weight (as_event e what ∷ []) ≤ cond (is_of (Some x) e.source) n 0
+  one_less e what n h = let k = read_less e what n h in omega arith
 
-    by : (e : Event (Heard Packet)) (h : What (Heard Packet)) →
-        total strict_weight (seen_by e (as_strict h)) ≤ cond (is_of (Some x) e.source) (what_weight h) 0
-    by e (Locked skipped) = read e (Locked skipped) 0 (omega arith)
-    by e (Told (Read packet)) = read e (Told packet) (what_weight (Told (Read packet))) (said_less packet)
-    by e (Told (Broken reason)) = omega arith
-    by e (Told (Guessed packet)) = read e (Told packet) (what_weight (Told (Guessed packet))) (guessed_less packet)
-    by e (Told (Misread reason)) = omega arith
-    by e (Raw bytes) = read e (Raw bytes) 0 (omega arith)
-    by e (Trigger byte) = read e (Trigger byte) 0 (omega arith)
+  -- the events that are read
+  seen_one : (e : Event (Heard Packet)) (h : What (Heard Packet)) →
+      total strict_weight (seen_by e (as_strict h)) ≤ cond (is_of (Some x) e.source) (what_weight h) 0
+  seen_one e (Locked skipped) = one_less e (Locked skipped) 0 (omega arith)
+  seen_one e (Told (Read packet)) = one_less e (Told packet) _ (said_less packet)
+  seen_one e (Told (Broken reason)) = omega arith
+  seen_one e (Told (Guessed packet)) = one_less e (Told packet) _ (guessed_less packet)
+  seen_one e (Told (Misread reason)) = omega arith
+  seen_one e (Raw bytes) = one_less e (Raw bytes) 0 (omega arith)
+  seen_one e (Trigger byte) = one_less e (Trigger byte) 0 (omega arith)
+
+  seen_less : (es : Heards) → total strict_weight (seen_in es) ≤ total weight es
+  seen_less es = total-flat weight strict_weight (λ e. seen_by e (as_strict e.what)) es (λ e. seen_one e e.what)
 
   -- those that the clocks have taken
   clocked_step : (c : List (Event Packet)) (e : Event (Heard Packet)) (h : What (Heard Packet)) →
@@ -166,23 +167,23 @@ module _ (w : ItmPacket → ℕ) (most : ℕ) (small : (n : ℕ) (p : ItmPacket)
       by true = none
       by false = refl
 
+    given_less : (own : Option ℕ) (e : Event (Heard Packet)) (h : What (Heard Packet)) →
+        total strict_weight (given_by own e (as_strict h)) ≤ cond (is_of (Some x) e.source) (what_weight h) 0
+    given_less own e (Locked skipped) = one_less e (Locked skipped) 0 (omega arith)
+    given_less own e (Told (Read packet)) = one_less e (Told packet) _ (said_less packet)
+    given_less own e (Told (Broken reason)) = loss_none e (loser_of own e.source) _
+    given_less own e (Told (Guessed packet)) = one_less e (Told packet) _ (guessed_less packet)
+    given_less own e (Told (Misread reason)) = loss_none e (loser_of own e.source) _
+    given_less own e (Raw bytes) = one_less e (Raw bytes) 0 (omega arith)
+    given_less own e (Trigger byte) = one_less e (Trigger byte) 0 (omega arith)
+
     losses_less : (own : Option ℕ) (es : Heards) → total strict_weight (with_losses own es) ≤ total weight es
     losses_less own es =
-        total-flat weight strict_weight (λ e. given_of own e (is_misread e.what)) es (λ e. by e e.what) where
-          read : (e : Event (Heard Packet)) (what : What Packet) (n : ℕ) → strict_what what ≤ n →
-              total strict_weight (as_event e what ∷ []) ≤ cond (is_of (Some x) e.source) n 0
-          read e what n h = let k = read_less e what n h in omega arith
-
-          by : (e : Event (Heard Packet)) (h : What (Heard Packet)) →
-              total strict_weight (cond (is_misread h) [] (given_by own e (as_strict h)))
-              ≤ cond (is_of (Some x) e.source) (what_weight h) 0
-          by e (Locked skipped) = read e (Locked skipped) 0 (omega arith)
-          by e (Told (Read packet)) = read e (Told packet) (what_weight (Told (Read packet))) (said_less packet)
-          by e (Told (Broken reason)) = loss_none e (loser_of own e.source) _
-          by e (Told (Guessed packet)) = read e (Told packet) (what_weight (Told (Guessed packet))) (guessed_less packet)
-          by e (Told (Misread reason)) = omega arith
-          by e (Raw bytes) = read e (Raw bytes) 0 (omega arith)
-          by e (Trigger byte) = read e (Trigger byte) 0 (omega arith)
+        total-flat weight strict_weight (λ e. given_of own e (is_misread e.what)) es (λ e. by e (is_misread e.what))
+        where
+          by : (e : Event (Heard Packet)) (t : Bool) → total strict_weight (given_of own e t) ≤ weight e
+          by e true = omega arith
+          by e false = given_less own e e.what
 
   module _ (plan : Plan) (bytes : List ℕ) (guesses : Bool) where
     abbrev es : Heards
@@ -294,4 +295,5 @@ dump_clock p bytes source before after bound own parts =
     (less p.guesses (total ticks before) (total ticks (packets_in (Some source) es)) (length bytes * TICKS) few
     (omega arith))).1 where
       less : (g : Bool) (n m k : ℕ) → m ≤ times g * k → n ≤ m → n ≤ times g * k
-      less g n m k h l = omega arith
+      less true n m k h l = omega arith
+      less false n m k h l = omega arith

@@ -4,7 +4,7 @@ use Rattle.std.proofs.Common.{append_assoc, append-nil, None, Some, Bool, true, 
 use Rattle.std.specs.Prelude.{◌||◌, not, Result, Ok, Err}
 use Rattle.std.specs.List.{All, before_first, list_any, prefix_len}
 use Rattle.std.proofs.lemmas.Bool.{or_parts}
-use Rattle.std.proofs.lemmas.List.Elements.{All-nil, All-cons, All-append}
+use Rattle.std.proofs.lemmas.List.Elements.{All-nil, All-cons, All-head, All-append}
 use Rattle.trace_values.specs.declared.fault.Reason.{Reason}
 use Rattle.trace_values.specs.Placed.{Placed, placed}
 use Rattle.source_events.specs.declared.event.Event.{Event}
@@ -81,42 +81,43 @@ sure_fault (Locked skipped) q = refl
 sure_fault (Raw bytes) q = refl
 sure_fault (Trigger byte) q = refl
 
+-- an event before others, if it is no guess
+abbrev kept : Event (Heard Packet) → Bool → Heards → Heards
+kept e g l = cond (not g) (e ∷ l) l
+
 -- so those before the first fault are the same with guesses and without, where none of them is a guess
 early_sure : (es : Heards) → before_fault (sure_events es) ≡ sure_events (before_fault es)
 early_sure [] = refl
 early_sure (e ∷ es) = by (is_guess e.what) (is_fault e.what) refl refl (early_sure es) where
-  abbrev kept : Bool → Heards → Heards
-  kept g l = cond (not g) (e ∷ l) l
-
   by : (g t : Bool) → is_guess e.what ≡ g → is_fault e.what ≡ t →
       before_fault (sure_events es) ≡ sure_events (before_fault es) →
-      before_fault (kept (is_guess e.what) (sure_events es)) ≡ sure_events (before_fault (e ∷ es))
+      before_fault (kept e (is_guess e.what) (sure_events es)) ≡ sure_events (before_fault (e ∷ es))
   by true true q f more = (let z : true ≡ false = sym f ∙ sure_fault e.what q in cc)
   by true false q f more =
-      ap (λ (g : Bool). before_fault (kept g (sure_events es))) q ∙ more
-      ∙ sym (ap (λ (g : Bool). kept g (sure_events (before_fault es))) q)
+      ap (λ (g : Bool). before_fault (kept e g (sure_events es))) q ∙ more
+      ∙ sym (ap (λ (g : Bool). kept e g (sure_events (before_fault es))) q)
       ∙ sym (ap sure_events (early_cons e es false f))
   by false true q f more =
-      ap (λ (g : Bool). before_fault (kept g (sure_events es))) q ∙ early_cons e (sure_events es) true f
+      ap (λ (g : Bool). before_fault (kept e g (sure_events es))) q ∙ early_cons e (sure_events es) true f
       ∙ sym (ap sure_events (early_cons e es true f))
   by false false q f more =
-      ap (λ (g : Bool). before_fault (kept g (sure_events es))) q ∙ early_cons e (sure_events es) false f
+      ap (λ (g : Bool). before_fault (kept e g (sure_events es))) q ∙ early_cons e (sure_events es) false f
       ∙ ap (λ (l : Heards). e ∷ l) more
-      ∙ sym (ap (λ (g : Bool). kept g (sure_events (before_fault es))) q)
+      ∙ sym (ap (λ (g : Bool). kept e g (sure_events (before_fault es))) q)
       ∙ sym (ap sure_events (early_cons e es false f))
 
+-- these events have no fault, and are those before the first fault of others
+abbrev Same : Heards → Heards → Type 0
+Same l es = (first_fault l ≡ None) × (upto l ≡ upto es)
+
 -- before the first fault there is none
-no_first : (es : Heards) → some_guess es ≡ false → (first_fault (before_fault es) ≡ None)
-    × (upto (before_fault es) ≡ upto es)
+no_first : (es : Heards) → some_guess es ≡ false → Same (before_fault es) es
 no_first [] h = (refl, refl)
 no_first (e ∷ es) h =
     let none = or_parts (is_guess e.what) (some_guess es) h in
     by e.what none.0 refl (no_first es none.1) where
-      abbrev Same : Heards → Type 0
-      Same l = (first_fault l ≡ None) × (upto l ≡ upto (e ∷ es))
-
       read : (what : What Packet) → as_strict e.what ≡ Ok what → is_fault e.what ≡ false →
-          (first_fault (before_fault es) ≡ None) × (upto (before_fault es) ≡ upto es) → Same (before_fault (e ∷ es))
+          Same (before_fault es) es → Same (before_fault (e ∷ es)) (e ∷ es)
       read what q f more =
           (ap first_fault (early_cons e es false f)
           ∙ ap (λ (r : Result (What Packet) Reason). first_by e r (first_fault (before_fault es))) q ∙ more.0,
@@ -124,7 +125,7 @@ no_first (e ∷ es) h =
           ∙ ap (upto_by e (as_strict e.what)) more.1)
 
       by : (w : What (Heard Packet)) → is_guess w ≡ false → e.what ≡ w →
-          (first_fault (before_fault es) ≡ None) × (upto (before_fault es) ≡ upto es) → Same (before_fault (e ∷ es))
+          Same (before_fault es) es → Same (before_fault (e ∷ es)) (e ∷ es)
       by (Locked skipped) g q more = read (Locked skipped) (ap as_strict q) (ap is_fault q) more
       by (Said (Read packet)) g q more = read (Said packet) (ap as_strict q) (ap is_fault q) more
       by (Said (Broken reason)) g q more =
@@ -162,7 +163,9 @@ IsPlain line = (line.0 ≡ false) × (is_marked line.1 ≡ false)
 plain_entry : (line : List ℕ) → All (λ (l : Bool × List ℕ). is_marked l.1 ≡ l.0) (entry false line) →
     All IsPlain (entry false line)
 plain_entry [] h = All-nil IsPlain
-plain_entry (code ∷ line) h = All-cons IsPlain (false, code ∷ line) [] (refl, h.0) (All-nil IsPlain)
+plain_entry (code ∷ line) h =
+    let told = All-head (λ (l : Bool × List ℕ). is_marked l.1 ≡ l.0) (false, code ∷ line) [] h in
+    All-cons IsPlain (false, code ∷ line) [] (refl, told) (All-nil IsPlain)
 
 plain_entries : (p : ListPlan) (first es : Heards) → some_guess es ≡ false → All IsPlain (near_entries p first es)
 plain_entries p first [] h = All-nil IsPlain

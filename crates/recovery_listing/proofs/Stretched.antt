@@ -1,7 +1,7 @@
 -- What a mapped source says over faults weighs, with its guesses or without: each of its units is read twice at most,
 -- and guessed at twice at most.
 use Rattle.std.proofs.Common.{◌≡◌, ◌≤◌, ℕ, ◌+◌, ◌-◌, ◌*◌, List, [], ◌∷◌, ◌++◌, length, drop, map, flat_map, refl, ◌∙◌, ap}
-use Rattle.std.proofs.Common.{arith, Bool, true, false, cond, Option, None, Some, length-append}
+use Rattle.std.proofs.Common.{suc, arith, Bool, true, false, cond, Option, None, Some, length-append}
 use Rattle.std.specs.Prelude.{filter, nat_lt}
 use Rattle.std.proofs.lemmas.List.{length-drop}
 use Rattle.std.proofs.Math.Nat.{mul-le-mul_right}
@@ -77,7 +77,7 @@ module _ {V : Type 0} (reads : Bool → List Placed → Stream V) where
         omega arith
 
     pub stretches_mass : (hunts : Bool) (l : List Fed) → mass (stretches reads way hunts l) ≤ total one l * (1 + a)
-    stretches_mass hunts l = from_mass l (before reads way hunts)
+    stretches_mass hunts l = let m = from_mass l (before reads way hunts) in omega arith
 
   -- where each packet weighs this much
   module _ (weigh : V → ℕ) where
@@ -151,7 +151,7 @@ module _ {V : Type 0} (reads : Bool → List Placed → Stream V) where
       some_units : (p : Placed → Bool) (u : List Placed) → length (filter p u) ≤ length u
       some_units p [] = omega arith
       some_units p (b ∷ u) = by (p b) (some_units p u) where
-        by : (t : Bool) → length (filter p u) ≤ length u → length (cond t (b ∷ filter p u) (filter p u)) ≤ 1 + length u
+        by : (t : Bool) → length (filter p u) ≤ length u → length (cond t (b ∷ filter p u) (filter p u)) ≤ suc (length u)
         by true h = omega arith
         by false h = omega arith
 

@@ -175,7 +175,8 @@ module _ (w : ItmPacket → ℕ) (most : ℕ) (small : (n : ℕ) (p : ItmPacket)
         ap (λ (s : Stream ItmPacket). total plain s.given) h.1 in
         omega arith)
     | inr h ↦ (
-        let e : total plain (packets_in true u).given ≡ total plain (kept (progress (by_unit rule) Header h.1).items) =
+        let e : total plain (packets_in true u).given
+        ≡ 0 + total plain (kept (progress (by_unit rule) Header h.1).items) =
         ap (λ (s : Stream ItmPacket). total plain s.given) h.5 in
         let f = read_few h.1 (unread Header) tt in
         let k = kept_weighs (progress (by_unit rule) Header h.1).items in

@@ -51,6 +51,9 @@ scaled : (guesses : Bool) (a b c : ℕ) → a ≤ times guesses * b → b ≤ c 
 scaled true a b c h k = omega arith
 scaled false a b c h k = omega arith
 
+chain : (a b c : ℕ) → a ≤ b → b ≤ c → a ≤ c
+chain a b c h k = omega arith
+
 -- how many units a source of ITM packets is fed in parts that lie so: one for each byte at most
 run_long : (run : List Cell) (n : ℕ) → RisesFrom n run → 0 < length run → n + length run ≤ end_of run
 run_long [] n r h = absurd (omega arith)
@@ -103,8 +106,8 @@ module _ (w : ItmPacket → ℕ) (most : ℕ) (small : (n : ℕ) (p : ItmPacket)
 
   stp_none : (l : List (Said StpItem × Place)) → total (of_read weigh) (given_as StpOf l) ≡ 0
   stp_none [] = refl
-  stp_none ((Notice skipped, place) ∷ l) = stp_none l
-  stp_none ((Kept item, place) ∷ l) = stp_none l
+  stp_none ((Notice skipped, place) ∷ l) = let e = stp_none l in omega arith
+  stp_none ((Kept item, place) ∷ l) = let e = stp_none l in omega arith
 
   itm_read : (order : Order) (hunts : Bool) (u : List Placed) →
       total (of_read weigh) (reads_by order Itm hunts u).given ≤ length u * most
@@ -128,7 +131,7 @@ module _ (w : ItmPacket → ℕ) (most : ℕ) (small : (n : ℕ) (p : ItmPacket)
   -- a source that is not mapped says no packet
   triggers_none : (run : List Cell) → given (triggers run) ≡ 0
   triggers_none [] = refl
-  triggers_none (c ∷ run) = triggers_none run
+  triggers_none (c ∷ run) = let e = triggers_none run in omega arith
 
   raw_none : (x : ℕ) (run : List Cell) → given (raw_events x run) ≡ 0
   raw_none x run = by (x == 0) (x == 125) where
@@ -162,13 +165,13 @@ module _ (w : ItmPacket → ℕ) (most : ℕ) (small : (n : ℕ) (p : ItmPacket)
         let n : total one (list_of Itm x ms) ≤ k = omega arith in
         let m : total one (list_of Itm x ms) * most ≤ k * most = mul-le-mul_right most n in
         scaled guesses (given (lifted (said_in guesses plan Itm x ms))) (total one (list_of Itm x ms) * most)
-        (k * most) (omega arith) m
+        (k * most) (chain _ _ _ l s) m
     events_few (Some Stp) ms k b =
         let l = lifted_few (said_in guesses plan Stp x ms) in
         let s = said_few (reads_by plan.order Stp) weigh 0 (stp_read plan.order) guesses
         (packets_hunt plan.packets) (list_of Stp x ms) in
         scaled guesses (given (lifted (said_in guesses plan Stp x ms))) (total one (list_of Stp x ms) * 0)
-        (k * most) (omega arith) (omega arith)
+        (k * most) (chain _ _ _ l s) (omega arith)
 
   -- what an event is that is told
   module _ (x : ℕ) where
