@@ -1,9 +1,9 @@
 -- The packets that clocks have taken weigh no more than those of the report, and their ticks are fewer than 2^64.
-use Rattle.std.proofs.Common.{◌≡◌, ◌≤◌, ◌<◌, ℕ, ◌+◌, ◌*◌, ◌^◌, ◌-◌, List, [], ◌∷◌, ◌++◌, length, map, flat_map, refl, sym}
+use Rattle.std.proofs.Common.{◌≡◌, ◌≤◌, ◌<◌, ℕ, ◌+◌, ◌*◌, ◌^◌, List, [], ◌∷◌, ◌++◌, length, flat_map, refl}
 use Rattle.std.proofs.Common.{◌∙◌, ap, arith, Bool, true, false, cond, Option, None, Some}
-use Rattle.std.specs.Prelude.{sum, not, filter}
+use Rattle.std.specs.Prelude.{sum, not}
 use Rattle.std.proofs.lemmas.List.Sums.{sum_by-append}
-use Rattle.std.proofs.Math.Nat.{mod-eq_of_lt, mul-le-mul_right}
+use Rattle.std.proofs.Math.Nat.{mod-eq_of_lt}
 use Rattle.trace_values.specs.Placed.{placed}
 use Rattle.itm_grammar.specs.declared.packet.ItmPacket.{ItmPacket}
 use Rattle.itm_grammar.specs.declared.packet.ItmPacket.TheVariants.{Overflow}
@@ -180,10 +180,10 @@ module _ (w : ItmPacket → ℕ) (most : ℕ) (small : (n : ℕ) (p : ItmPacket)
     losses_less : (own : Option ℕ) (es : Heards) → total strict_weight (with_losses own es) ≤ total weight es
     losses_less own es =
         total-flat weight strict_weight (λ e. given_of own e (is_misread e.what)) es (λ e. by e (is_misread e.what))
-        where
-          by : (e : Event (Heard Packet)) (t : Bool) → total strict_weight (given_of own e t) ≤ weight e
-          by e true = omega arith
-          by e false = given_less own e e.what
+      where
+        by : (e : Event (Heard Packet)) (t : Bool) → total strict_weight (given_of own e t) ≤ weight e
+        by e true = omega arith
+        by e false = given_less own e e.what
 
   module _ (plan : Plan) (bytes : List ℕ) (guesses : Bool) where
     abbrev es : Heards

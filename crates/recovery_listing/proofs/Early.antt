@@ -1,8 +1,8 @@
 -- Before its first fault each way of reading lists the same.
-use Rattle.std.proofs.Common.{◌≡◌, ◌∙◌, ℕ, ◌+◌, suc, List, [], ◌∷◌, ◌++◌, length, take, drop, refl, sym, ap, arith}
-use Rattle.std.proofs.Common.{append_assoc, append-nil, None, Some, Bool, true, false, cond}
-use Rattle.std.specs.Prelude.{◌||◌, not, Result, Ok, Err}
-use Rattle.std.specs.List.{All, before_first, list_any, prefix_len}
+use Rattle.std.proofs.Common.{◌≡◌, ◌∙◌, ℕ, ◌+◌, suc, List, [], ◌∷◌, ◌++◌, length, take, refl, sym, ap, arith}
+use Rattle.std.proofs.Common.{append_assoc, append-nil, None, Bool, true, false, cond}
+use Rattle.std.specs.Prelude.{not, Result, Ok}
+use Rattle.std.specs.List.{All, list_any, prefix_len}
 use Rattle.std.proofs.lemmas.Bool.{or_parts}
 use Rattle.std.proofs.lemmas.List.Elements.{All-nil, All-cons, All-head, All-append}
 use Rattle.trace_values.specs.declared.fault.Reason.{Reason}
@@ -15,7 +15,7 @@ use Rattle.source_events.specs.Plan.{is_sound}
 use Rattle.source_events.proofs.Captures.{capture_rises}
 use Rattle.stretch_readings.specs.declared.heard.Heard.{Heard}
 use Rattle.stretch_readings.specs.declared.heard.Heard.TheVariants.{Read, Broken, Guessed, Misread}
-use Rattle.recovering_machines.specs.Hearing.{as_event, as_strict, is_guess}
+use Rattle.recovering_machines.specs.Hearing.{as_strict, is_guess}
 use Rattle.recovery_report.specs.Counts.{is_fault}
 use Rattle.recovery_report.specs.Port.{recovered}
 use Rattle.recovery_report.specs.Report.{parts_in, report, report_with, sure_events}
@@ -30,7 +30,7 @@ use Rattle.capture_actions.specs.Listing as strict
 use Rattle.recovery_listing.specs.Early.{before_fault, early_marked}
 use Rattle.recovery_listing.specs.Listing.{line_of, lines_after, listed}
 use Rattle.recovery_listing.specs.Marked.{entry, is_marked, near_entries, near_marked}
-use Rattle.recovery_listing.specs.Near.{near_line, near_lines_after}
+use Rattle.recovery_listing.specs.Near.{near_line}
 use Rattle.recovery_listing.proofs.Faultless.{all_sure, lines}
 use Rattle.recovery_listing.proofs.Guesses.{entry_told, lines_are}
 use Rattle.recovery_listing.proofs.Unguessed.{plain_lines}
@@ -118,20 +118,22 @@ no_first (e ∷ es) h =
     by e.what none.0 refl (no_first es none.1) where
       read : (what : What Packet) → as_strict e.what ≡ Ok what → is_fault e.what ≡ false →
           Same (before_fault es) es → Same (before_fault (e ∷ es)) (e ∷ es)
-      read what q f more =
-          (ap first_fault (early_cons e es false f)
-          ∙ ap (λ (r : Result (What Packet) Reason). first_by e r (first_fault (before_fault es))) q ∙ more.0,
-          ap upto (early_cons e es false f)
-          ∙ ap (upto_by e (as_strict e.what)) more.1)
+      read what q f more = (
+        ap first_fault (early_cons e es false f)
+            ∙ ap (λ (r : Result (What Packet) Reason). first_by e r (first_fault (before_fault es))) q ∙ more.0,
+        ap upto (early_cons e es false f)
+            ∙ ap (upto_by e (as_strict e.what)) more.1,
+      )
 
       by : (w : What (Heard Packet)) → is_guess w ≡ false → e.what ≡ w →
           Same (before_fault es) es → Same (before_fault (e ∷ es)) (e ∷ es)
       by (Locked skipped) g q more = read (Locked skipped) (ap as_strict q) (ap is_fault q) more
       by (Said (Read packet)) g q more = read (Said packet) (ap as_strict q) (ap is_fault q) more
-      by (Said (Broken reason)) g q more =
-          (ap first_fault (early_cons e es true (ap is_fault q)),
-          ap upto (early_cons e es true (ap is_fault q))
-          ∙ sym (ap (λ (w : What (Heard Packet)). upto_by e (as_strict w) (upto es)) q))
+      by (Said (Broken reason)) g q more = (
+        ap first_fault (early_cons e es true (ap is_fault q)),
+        ap upto (early_cons e es true (ap is_fault q))
+            ∙ sym (ap (λ (w : What (Heard Packet)). upto_by e (as_strict w) (upto es)) q),
+      )
       by (Said (Guessed packet)) g q more = cc
       by (Said (Misread reason)) g q more = cc
       by (Raw bytes) g q more = read (Raw bytes) (ap as_strict q) (ap is_fault q) more

@@ -1,6 +1,6 @@
 -- What ITM packets weigh that are read of some bytes: so much for each byte at most, where a packet of few ticks for
 -- its bytes weighs no more than these bytes.
-use Rattle.std.proofs.Common.{◌≡◌, ◌≤◌, ◌<◌, ℕ, ◌+◌, ◌*◌, ◌%◌, ◌^◌, List, [], ◌∷◌, ◌++◌, length, refl, ap, arith, suc}
+use Rattle.std.proofs.Common.{◌≡◌, ◌≤◌, ◌<◌, ℕ, ◌+◌, ◌*◌, ◌%◌, ◌^◌, List, [], ◌∷◌, length, refl, ap, arith, suc}
 use Rattle.std.proofs.Common.{zero, inl, inr, ◌∙◌, Bool, true, false, cond, Option, None, Some, length-append}
 use Rattle.std.specs.Prelude.{◌==◌, ◌&&◌, nat_lt, nat_le, sum}
 use Rattle.std.proofs.lemmas.Bool.Decides.{nat_tests}

@@ -1,6 +1,6 @@
 -- What the elements of a list weigh together, where each weighs so much.
-use Rattle.std.proofs.Common.{◌≡◌, ◌≤◌, ℕ, ◌+◌, ◌-◌, ◌*◌, List, [], ◌∷◌, ◌++◌, length, drop, map, flat_map, refl, ◌∙◌}
-use Rattle.std.proofs.Common.{ap, arith, zero, suc, Bool, true, false, cond}
+use Rattle.std.proofs.Common.{◌≡◌, ◌≤◌, ℕ, ◌+◌, ◌*◌, List, [], ◌∷◌, ◌++◌, length, drop, map, flat_map, refl}
+use Rattle.std.proofs.Common.{arith, zero, suc, Bool, true, false, cond}
 use Rattle.std.specs.Prelude.{filter}
 
 abbrev pub total : {X : Type 0} → (X → ℕ) → List X → ℕ

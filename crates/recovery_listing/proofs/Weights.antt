@@ -1,6 +1,6 @@
 -- What the packets of a source weigh in the recovering report of some bytes, with its guesses or without.
-use Rattle.std.proofs.Common.{◌≡◌, ◌≤◌, ◌<◌, ℕ, ◌+◌, ◌*◌, List, [], ◌∷◌, ◌++◌, length, drop, map, flat_map, refl, sym}
-use Rattle.std.proofs.Common.{◌∙◌, ap, subst, arith, inl, inr, Bool, true, false, cond, Option, None, Some, append_assoc}
+use Rattle.std.proofs.Common.{◌≡◌, ◌≤◌, ◌<◌, ℕ, ◌+◌, ◌*◌, List, [], ◌∷◌, ◌++◌, length, drop, map, flat_map, refl}
+use Rattle.std.proofs.Common.{◌∙◌, ap, arith, inl, inr, Bool, true, false, cond, Option, None, Some, append_assoc}
 use Rattle.std.proofs.Common.{append-nil}
 use Rattle.std.specs.Prelude.{◌==◌}
 use Rattle.std.proofs.Math.Nat.{mul-le-mul_right}
@@ -26,12 +26,12 @@ use Rattle.source_events.specs.Merge.{InOrder, is_of, part, told}
 use Rattle.source_events.specs.Packets.{given_as, said_as}
 use Rattle.source_events.specs.Plan.{kind_of}
 use Rattle.source_events.specs.Report.{lifted, raw_events, raws, triggers, what_of}
-use Rattle.source_events.specs.Runs.{IsRunFrom, RisesFrom, end_of, id_of, last_at}
+use Rattle.source_events.specs.Runs.{IsRunFrom, RisesFrom, end_of, id_of}
 use Rattle.source_events.proofs.Captures.{capture_rises}
 use Rattle.source_events.proofs.Family.{of_cases}
-use Rattle.source_machine.specs.Units.{reads_by, units_at}
+use Rattle.source_machine.specs.Units.{reads_by}
 use Rattle.stretch_readings.specs.declared.heard.Heard.{Heard}
-use Rattle.stretch_readings.specs.Stretches.{Fed, One}
+use Rattle.stretch_readings.specs.Stretches.{One}
 use Rattle.recovering_machines.specs.Run.{units_in}
 use Rattle.recovery_report.specs.Placing.{PartLies, PartsBetween, part_end}
 use Rattle.recovery_report.specs.Port.{recovered}
@@ -45,7 +45,7 @@ use Rattle.recovery_laws.proofs.Ordering.{merged}
 use Rattle.recovering_machines.proofs.Runs.{lifted_append}
 use Rattle.recovery_listing.proofs.Stretched.{of_heard, of_read, of_said, one, said_few, times}
 use Rattle.recovery_listing.proofs.Ticking.{TellsFew, itm_few, plain}
-use Rattle.recovery_listing.proofs.Totals.{total, total-append, total-drop, total-flat, total-map}
+use Rattle.recovery_listing.proofs.Totals.{total, total-append, total-map}
 
 scaled : (guesses : Bool) (a b c : ℕ) → a ≤ times guesses * b → b ≤ c → a ≤ times guesses * c
 scaled true a b c h k = omega arith

@@ -1,4 +1,3 @@
-use Rattle.std.proofs.Common.{refl}
 use Rattle.recovery_listing.proofs.Clocked.{dump_clock}
 use Rattle.recovery_listing.proofs.clock_laws.dump_clock_law.Goals as goal
 
