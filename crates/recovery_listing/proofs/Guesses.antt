@@ -48,7 +48,8 @@ sure_entry [] rest = refl
 sure_entry (code ∷ line) rest = refl
 
 -- the lines are those of all entries
-pub lines_are : (p : ListPlan) (before es : Events) → near_lines_after p before es ≡ all_lines (near_entries p before es)
+pub lines_are : (p : ListPlan) (before es : Events) →
+    near_lines_after p before es ≡ all_lines (near_entries p before es)
 lines_are p before [] = refl
 lines_are p before (e ∷ es) =
     let line = near_line p before e (is_guess e.what) in

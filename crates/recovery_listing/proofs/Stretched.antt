@@ -12,7 +12,8 @@ use Rattle.stretch_readings.specs.declared.heard.Heard.{Heard}
 use Rattle.stretch_readings.specs.declared.heard.Heard.TheVariants.{Read, Broken, Guessed, Misread}
 use Rattle.stretch_readings.specs.Guessing.{as_guess, at_next, before_first, guess_of, guessed_in, has_fault, hunted_in}
 use Rattle.stretch_readings.specs.Guessing.{near_of, said_of, told_near}
-use Rattle.stretch_readings.specs.Stretches.{Fed, One, Mark, Resumption, Stretch, Stretches, before, broken, fed, fed_from}
+use Rattle.stretch_readings.specs.Stretches.{Fed, One, Mark, Resumption, Stretch, Stretches, before, broken, fed}
+use Rattle.stretch_readings.specs.Stretches.{fed_from}
 use Rattle.stretch_readings.specs.Stretches.{from_fault, heard, heard_of, recovering, resumed_by, stretches, told}
 use Rattle.stretch_readings.specs.Stretches.{with_unit}
 use Rattle.recovery_listing.proofs.Totals.{total, total-append, total-flat, total-map}
@@ -27,6 +28,9 @@ mass r = total units_of r.past + units_of r.now
 abbrev pub one : Fed → ℕ
 one (One b) = 1
 one Mark = 0
+
+both : (a b most : ℕ) → (a + b) * most ≡ a * most + b * most
+both a b most = grind arith
 
 -- what is said weighs as much as its packets, which weigh this
 module _ {V : Type 0} (weigh : V → ℕ) where
@@ -107,13 +111,14 @@ module _ {V : Type 0} (reads : Bool → List Placed → Stream V) where
             let f = few s.hunts s.units in
             omega arith
 
-        all_told : (way : Resumption) (l : List Stretch) → total said (flat_map (told reads way) l) ≤ total units_of l * most
+        all_told : (way : Resumption) (l : List Stretch) →
+            total said (flat_map (told reads way) l) ≤ total units_of l * most
         all_told way [] = omega arith
         all_told way (s ∷ l) =
             let a = total-append said (told reads way s) (flat_map (told reads way) l) in
             let t = told_few way s in
             let k = all_told way l in
-            let e : (units_of s + total units_of l) * most ≡ units_of s * most + total units_of l * most = grind arith in
+            let e = both (units_of s) (total units_of l) most in
             omega arith
 
         heard_few : (way : Resumption) (r : Stretches) → total said (heard_of reads way r).given ≤ mass r * most
@@ -121,8 +126,7 @@ module _ {V : Type 0} (reads : Bool → List Placed → Stream V) where
             let a = total-append said (flat_map (told reads way) r.past) (told reads way r.now) in
             let p = all_told way r.past in
             let n = told_few way r.now in
-            let e : (total units_of r.past + units_of r.now) * most ≡ total units_of r.past * most + units_of r.now * most =
-            grind arith in
+            let e = both (total units_of r.past) (units_of r.now) most in
             omega arith
 
         -- guesses
@@ -151,7 +155,8 @@ module _ {V : Type 0} (reads : Bool → List Placed → Stream V) where
         some_units : (p : Placed → Bool) (u : List Placed) → length (filter p u) ≤ length u
         some_units p [] = omega arith
         some_units p (b ∷ u) = by (p b) (some_units p u) where
-          by : (t : Bool) → length (filter p u) ≤ length u → length (cond t (b ∷ filter p u) (filter p u)) ≤ suc (length u)
+          by : (t : Bool) → length (filter p u) ≤ length u →
+              length (cond t (b ∷ filter p u) (filter p u)) ≤ suc (length u)
           by true h = omega arith
           by false h = omega arith
 
@@ -159,7 +164,8 @@ module _ {V : Type 0} (reads : Bool → List Placed → Stream V) where
         before_less [] u = omega arith
         before_less (first ∷ given) u = some_units (λ b. nat_lt b.place.at first.1.at) u
 
-        guessed_few : (after : Bool) (s : Stretch) → total said (guessed_in reads from_fault after s) ≤ units_of s * most
+        guessed_few : (after : Bool) (s : Stretch) →
+            total said (guessed_in reads from_fault after s) ≤ units_of s * most
         guessed_few false s = omega arith
         guessed_few true s =
             let hunted = before_first (reads s.hunts s.units).given s.units in
@@ -182,7 +188,7 @@ module _ {V : Type 0} (reads : Bool → List Placed → Stream V) where
             let x = guessed_few after s in
             let y = told_few from_fault s in
             let z = near_few (has_fault reads from_fault s) l in
-            let e : (units_of s + total units_of l) * most ≡ units_of s * most + total units_of l * most = grind arith in
+            let e = both (units_of s) (total units_of l) most in
             omega arith
 
         near_of_few : (r : Stretches) → total said (near_of reads from_fault r) ≤ 2 * (mass r * most)
@@ -198,7 +204,8 @@ module _ {V : Type 0} (reads : Bool → List Placed → Stream V) where
         twice hunts l =
             let m : mass (stretches reads from_fault hunts l) ≤ total one l * 2 =
             stretches_mass from_fault 1 (λ h u. omega arith) hunts l in
-            let k : mass (stretches reads from_fault hunts l) * most ≤ total one l * 2 * most = mul-le-mul_right most m in
+            let k : mass (stretches reads from_fault hunts l) * most ≤ total one l * 2 * most =
+            mul-le-mul_right most m in
             let e : total one l * 2 * most ≡ 2 * (total one l * most) = grind arith in
             omega arith
 

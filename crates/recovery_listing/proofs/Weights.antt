@@ -36,7 +36,8 @@ use Rattle.recovering_machines.specs.Run.{units_in}
 use Rattle.recovery_report.specs.Placing.{PartLies, PartsBetween, part_end}
 use Rattle.recovery_report.specs.Port.{recovered}
 use Rattle.recovery_report.specs.Report.{Part, Run, Locks, Breaks, added_by_with, added_with, events_by_with}
-use Rattle.recovery_report.specs.Report.{events_of_with, fed_by, list_of, parts_in, report, report_from_with, report_with}
+use Rattle.recovery_report.specs.Report.{events_of_with, fed_by, list_of, parts_in, report, report_from_with}
+use Rattle.recovery_report.specs.Report.{report_with}
 use Rattle.recovery_report.specs.Report.{run_in, said_in}
 use Rattle.recovery_report.proofs.Nearing.{AllBelow, first_below, near}
 use Rattle.recovery_report.proofs.PartLaws as parts
