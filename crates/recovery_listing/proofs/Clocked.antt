@@ -30,8 +30,9 @@ use Rattle.recovery_listing.specs.Listing.{clocked_by, clocked_from, seen_by, se
 use Rattle.recovery_listing.specs.Near.{guess_clocked, guess_clocked_by, guess_clocked_from}
 use Rattle.recovery_listing.specs.Noting.{given_by, given_of, is_misread, loser_of, loss_at, with_losses}
 use Rattle.recovery_listing.proofs.Stretched.{times}
-use Rattle.recovery_listing.proofs.Ticking.{TellsFew, TICKS}
-use Rattle.recovery_listing.proofs.Totals.{total, total-append, total-filter, total-flat}
+use Rattle.capture_actions.proofs.Few.{all_ticks, each_one}
+use Rattle.capture_actions.proofs.Ticking.{TellsFew, TICKS}
+use Rattle.capture_actions.proofs.Totals.{total, total-append, total-filter, total-flat}
 use Rattle.recovery_listing.proofs.Weights.{of_event, of_what, report_few}
 
 abbrev Heards : Type 0
@@ -233,10 +234,6 @@ module _ (w : ItmPacket → ℕ) (most : ℕ) (small : (n : ℕ) (p : ItmPacket)
         let a = packets_less (with_losses own es) in let b = losses_less none own es in let c = all_few in omega arith
 
 -- how many packets
-pub each_one : (packets : List ItmPacket) → total (λ p. 1) packets ≡ length packets
-each_one [] = refl
-each_one (p ∷ packets) = let e = each_one packets in omega arith
-
 pub few_packets : (plan : Plan) (bytes : List ℕ) (guesses : Bool) (x : ℕ) →
     length (itm_packets (Some x) (seen_in (report_with guesses plan (placed bytes)))) ≤ times guesses * length bytes
 few_packets plan bytes guesses x =
@@ -254,13 +251,6 @@ few_packets plan bytes guesses x =
 -- and their ticks
 abbrev pub ticks : ItmPacket → ℕ
 ticks p = sum (deltas_in p)
-
-pub all_ticks : (packets : List ItmPacket) → total ticks packets ≡ sum (flat_map deltas_in packets)
-all_ticks [] = refl
-all_ticks (p ∷ packets) =
-    let e = all_ticks packets in
-    let both = sum_by-append (λ (x : ℕ). x) (deltas_in p) (flat_map deltas_in packets) in
-    omega arith
 
 pub small_ticks : (n : ℕ) (p : ItmPacket) → TellsFew n p → ticks p ≤ n * TICKS
 small_ticks n p h = h.1

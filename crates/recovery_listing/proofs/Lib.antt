@@ -9,9 +9,7 @@ pub mod Noted
 pub mod Kinded
 pub mod Items
 pub mod Faultless
-pub mod Totals
 pub mod Seen
-pub mod Ticking
 pub mod Stretched
 pub mod Weights
 pub mod Clocked

@@ -16,7 +16,7 @@ use Rattle.stretch_readings.specs.Stretches.{Fed, One, Mark, Resumption, Stretch
 use Rattle.stretch_readings.specs.Stretches.{fed_from}
 use Rattle.stretch_readings.specs.Stretches.{from_fault, heard, heard_of, recovering, resumed_by, stretches, told}
 use Rattle.stretch_readings.specs.Stretches.{with_unit}
-use Rattle.recovery_listing.proofs.Totals.{total, total-append, total-flat, total-map}
+use Rattle.capture_actions.proofs.Totals.{total, total-append, total-flat, total-map}
 
 -- how many units stretches have together, and how many of what is fed are units
 abbrev pub units_of : Stretch → ℕ

@@ -45,8 +45,8 @@ use Rattle.recovery_report.proofs.Parting.{parts_in_order, parts_placed}
 use Rattle.recovery_laws.proofs.Ordering.{merged}
 use Rattle.recovering_machines.proofs.Runs.{lifted_append}
 use Rattle.recovery_listing.proofs.Stretched.{of_heard, of_read, of_said, one, said_few, times}
-use Rattle.recovery_listing.proofs.Ticking.{TellsFew, itm_few, plain}
-use Rattle.recovery_listing.proofs.Totals.{total, total-append, total-map}
+use Rattle.capture_actions.proofs.Ticking.{TellsFew, itm_few, plain}
+use Rattle.capture_actions.proofs.Totals.{total, total-append, total-map}
 
 scaled : (guesses : Bool) (a b c : ℕ) → a ≤ times guesses * b → b ≤ c → a ≤ times guesses * c
 scaled true a b c h k = omega arith

@@ -4,7 +4,7 @@ use Rattle.recovery_report.specs.Report.{sure_events}
 use Rattle.recovery_listing.specs.Listing.{clocked_from}
 use Rattle.recovery_listing.specs.Near.{guess_clocked}
 use Rattle.recovery_listing.proofs.Clocked.{clocked_few, guessed_few, is_clock, plain_few, small_ticks, ticks}
-use Rattle.recovery_listing.proofs.Ticking.{TICKS}
+use Rattle.capture_actions.proofs.Ticking.{TICKS}
 use Rattle.recovery_listing.proofs.clock_laws.clock_law.Goals as goal
 
 pub returns-clause-on : goal.returns-clause-on

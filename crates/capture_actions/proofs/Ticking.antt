@@ -28,7 +28,7 @@ use Rattle.itm_grammar.proofs.Headers.{header_is}
 use Rattle.itm_codec.specs.Reading.{packets_in}
 use Rattle.itm_codec.proofs.Answering.{hunt_is}
 use Rattle.capture_actions.specs.Remarks.{deltas_in}
-use Rattle.recovery_listing.proofs.Totals.{total, total-append}
+use Rattle.capture_actions.proofs.Totals.{total, total-append}
 
 -- The most ticks that a byte tells: a long local timestamp of five bytes tells less than 2^28.
 abbrev pub TICKS : ℕ
