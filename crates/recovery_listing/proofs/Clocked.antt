@@ -2,7 +2,6 @@
 use Rattle.std.proofs.Common.{◌≡◌, ◌≤◌, ◌<◌, ℕ, ◌+◌, ◌*◌, ◌^◌, List, [], ◌∷◌, ◌++◌, length, flat_map, refl}
 use Rattle.std.proofs.Common.{◌∙◌, ap, arith, Bool, true, false, cond, Option, None, Some}
 use Rattle.std.specs.Prelude.{sum, not}
-use Rattle.std.proofs.lemmas.List.Sums.{sum_by-append}
 use Rattle.std.proofs.Math.Nat.{mod-eq_of_lt}
 use Rattle.trace_values.specs.Placed.{placed}
 use Rattle.itm_grammar.specs.declared.packet.ItmPacket.{ItmPacket}
