@@ -9,6 +9,8 @@ pub mod Counting
 pub mod Filtering
 pub mod Wanted
 pub mod Choosing
+pub mod Totals
+pub mod Ticking
 pub mod Few
 pub mod Values
 pub mod Tallies

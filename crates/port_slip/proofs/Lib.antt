@@ -10,3 +10,4 @@ pub mod Words
 pub mod Sureness
 pub mod Standing
 pub mod Taking
+pub mod Held

@@ -14,7 +14,7 @@ use Rattle.port_slip.proofs.Bits.{bits_length}
 use Rattle.port_slip.proofs.Steps.{hunt_over, pass_over}
 use Rattle.port_slip.proofs.Sureness.{whole_length, take_front}
 
-none : (l : List (List Bool)) → length l ≡ 0 → l ≡ []
+pub none : (l : List (List Bool)) → length l ≡ 0 → l ≡ []
 none [] h = refl
 none (x ∷ l) h = absurd (omega arith)
 

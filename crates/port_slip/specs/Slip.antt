@@ -1,9 +1,9 @@
 -- What a realigner stands for.
-use Rattle.std.specs.Prelude.{◌≡◌, ℕ, ◌+◌, ◌≤◌, List, ◌++◌, length}
+use Rattle.std.specs.Prelude.{◌≡◌, ℕ, ◌+◌, ◌≤◌, List, ◌++◌, length, Bool}
 use Rattle.port_slip.specs.declared.slip.Slip.{Slip}
 use Rattle.port_slip.specs.Bits.{bits_of}
 use Rattle.port_slip.specs.Segments.{Realigned, realigned}
-use Rattle.port_slip.specs.Coming.{coming, held_in}
+use Rattle.port_slip.specs.Coming.{coming, held_in, of_open, opened}
 
 -- what is still to come when these bytes are pushed and it is finished
 abbrev pub to_come : Slip → List ℕ → Realigned
@@ -31,6 +31,14 @@ held_by s = held_in s.phase
 pub record Stands (s : Slip) (bytes so_far : List ℕ) : Type 0 where
   pub count : pushed_by s ≡ length bytes
   pub completes : (more : List ℕ) → realigned (bytes ++ more) ≡ joined so_far s (to_come s more)
+
+-- So many bits are kept of the open segment of these bytes, of which this much is written: whatever bytes come, the
+-- rest of the realigned bytes is that of these bits and those of the bytes.
+pub record Keeps (bytes so_far : List ℕ) (count : ℕ) : Type 0 where
+  pub kept : List Bool
+  pub long : length kept ≡ count
+  pub rest : (more : List ℕ) →
+      (realigned (bytes ++ more)).bytes ≡ so_far ++ (of_open (opened (kept ++ bits_of more))).bytes
 
 -- Between these two it took these bytes, and with them these became sure of the realigned bytes.
 pub record Takes (old new : Slip) (bytes sure : List ℕ) : Type 0 where

@@ -37,7 +37,7 @@ impl Slip {
     ghost use Rattle.std.specs.Prelude.{ℕ, ◌++◌, ◌∷◌, [], List, length, option_to_list};
     ghost use Rattle.arrayvec.specs.ArrayVec.{array_vec_len};
     ghost use Rattle.port_slip.specs.Segments.{realigned};
-    ghost use Rattle.port_slip.specs.Slip.{Stands, Takes, held_by, joined, pushed_by, to_come};
+    ghost use Rattle.port_slip.specs.Slip.{Keeps, Stands, Takes, held_by, joined, pushed_by, to_come};
     ghost use Rattle.port_slip.specs.declared.phase.SlipPhase.TheVariants.{Hunting, Open};
 
     /// A realigner of no bytes.
@@ -55,22 +55,25 @@ impl Slip {
         }
     }
 
-    /// How many bytes were pushed.
+    /// How many bytes were pushed: those of each list that it stands for.
     pub fn pushed(&self) -> u64
-        ensures { result ≡ pushed_by self.now }
+        ensures pushed { result ≡ pushed_by self.now }
+        ensures bytes { (bytes so_far : List ℕ) → Stands self.now bytes so_far → result ≡ length bytes }
     {
         self.pushed
     }
 
-    /// How many bits of the open segment are kept; none before the first pattern.
+    /// How many bits of the open segment are kept, of which with the bytes that come the rest is made; none before the
+    /// first pattern.
     pub fn held(&self) -> u8
         ensures held { result ≡ held_by self.now }
         ensures few { result ≤ 47 }
+        ensures kept { (bytes so_far : List ℕ) → Stands self.now bytes so_far →
+            0 < (realigned bytes).patterns → Keeps bytes so_far result }
+        ensures none { (bytes so_far : List ℕ) → Stands self.now bytes so_far →
+            (realigned bytes).patterns ≡ 0 → result ≡ 0 }
     {
-        match self.phase {
-            SlipPhase::Hunting(_) => 0,
-            SlipPhase::Open(window) => window.held,
-        }
+        self.phase.held()
     }
 
     /// Takes the next byte, and answers what has become sure of the realigned bytes with it.

@@ -59,7 +59,7 @@ seen (x ∷ es) e = by (as_strict x.what) e (λ h. seen es h) where
   by (Ok what) h more = ap (λ (l : Events). as_event x what ∷ l) (more h)
   by (Err reason) h more = cc
 
-lines : (p : ListPlan) (es first : Heards) → first_fault first ≡ None → first_fault es ≡ None →
+pub lines : (p : ListPlan) (es first : Heards) → first_fault first ≡ None → first_fault es ≡ None →
     lines_after p first es ≡ strict.lines_from p (upto first) (upto first) (upto es)
 lines p [] first b e = refl
 lines p (x ∷ es) first b e = by (as_strict x.what) refl e (λ n h. lines p es (first ++ x ∷ []) n h) where
@@ -101,7 +101,7 @@ module _ {X : Type 0} (leads : X → Bool) where
         (more (ap (λ (b : Bool). b || list_any leads xs) (sym q) ∙ h))
 
 -- events that are no guesses are all sure
-all_sure : (es : Heards) → list_any (λ e. is_guess e.what) es ≡ false → sure_events es ≡ es
+pub all_sure : (es : Heards) → list_any (λ e. is_guess e.what) es ≡ false → sure_events es ≡ es
 all_sure [] h = refl
 all_sure (x ∷ es) h = by (is_guess x.what) h (λ k. all_sure es k) where
   by : (g : Bool) → (g || list_any (λ e. is_guess e.what) es) ≡ false →

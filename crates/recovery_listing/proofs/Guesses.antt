@@ -49,7 +49,8 @@ sure_entry [] rest = refl
 sure_entry (code ∷ line) rest = refl
 
 -- the lines are those of all entries
-lines_are : (p : ListPlan) (before es : Events) → near_lines_after p before es ≡ all_lines (near_entries p before es)
+pub lines_are : (p : ListPlan) (before es : Events) →
+    near_lines_after p before es ≡ all_lines (near_entries p before es)
 lines_are p before [] = refl
 lines_are p before (e ∷ es) =
     let line = near_line p before e (is_guess e.what) in
@@ -138,7 +139,7 @@ sure_entries p before e (Err reason) =
     told_entry false (fault_line stp (place_of e, (reason, e.source)))
     (fault_unmarked stp (place_of e, (reason, e.source)))
 
-entry_told : (p : ListPlan) (before : Events) (e : Event (Heard Packet)) (g : Bool) →
+pub entry_told : (p : ListPlan) (before : Events) (e : Event (Heard Packet)) (g : Bool) →
     All IsTold (entry g (near_line p before e g))
 entry_told p before e true = guess_entries p before e (as_strict e.what)
 entry_told p before e false = sure_entries p (sure_events before) e (as_strict e.what)

@@ -9,3 +9,8 @@ pub mod Noted
 pub mod Paid
 pub mod Items
 pub mod Faultless
+pub mod Seen
+pub mod Stretched
+pub mod Weights
+pub mod Clocked
+pub mod Early

@@ -25,7 +25,7 @@ some_guess es = list_any (λ e. is_guess e.what) es
 none_guessed : (plan : Plan) (bytes : List ℕ) → some_guess (report plan (placed bytes)) ≡ false
 none_guessed plan bytes = no_guess plan 0 (length bytes) (placed bytes) (capture_rises bytes)
 
-plain_lines : (p : ListPlan) (before es : Events) → sure_events before ≡ before → some_guess es ≡ false →
+pub plain_lines : (p : ListPlan) (before es : Events) → sure_events before ≡ before → some_guess es ≡ false →
     near_lines_after p before es ≡ lines_after p before es
 plain_lines p before [] s h = refl
 plain_lines p before (e ∷ es) s h =

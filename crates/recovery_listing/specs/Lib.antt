@@ -2,6 +2,7 @@ pub mod Listing
 pub mod Filtered
 pub mod Near
 pub mod Marked
+pub mod Early
 pub mod Summary
 pub mod LineLaws
 pub mod GuessClocks

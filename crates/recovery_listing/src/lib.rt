@@ -5,10 +5,13 @@
 
 mod account;
 mod check;
+pub mod clock_laws;
 mod counting;
+pub mod early_laws;
 mod going_on;
 mod guess_clocks;
 mod heard_kinds;
+pub mod kind_laws;
 mod kinds;
 pub mod laws;
 mod lister;

@@ -12,3 +12,4 @@ pub mod Fits
 pub mod ReadBack
 pub mod ReadHeader
 pub mod ReadAt
+pub mod Clocks

@@ -2,6 +2,7 @@
 #![tactic(auto)]
 
 mod binary;
+pub mod clock_laws;
 mod dump;
 mod header;
 pub mod laws;
