@@ -18,7 +18,6 @@ use Rattle.source_events.specs.Report.{lifted, raw_events, raws}
 use Rattle.source_events.specs.Runs.{end_of, id_of, IsRunFrom}
 use Rattle.source_events.proofs.Adding.{Adds, AddsAlways}
 use Rattle.source_events.proofs.Family.{all_lifted, all_raw, of_cases, raws_other, raws_own, within_run}
-use Rattle.source_events.proofs.Merges.{at_most_self}
 use Rattle.source_machine.specs.Units.{reads_by}
 use Rattle.stretch_readings.specs.declared.heard.Heard.{Heard}
 use Rattle.stretch_readings.specs.Stretches.{Stretches, before, broken, from_fault, heard, heard_of}
@@ -30,8 +29,9 @@ use Rattle.recovery_report.specs.Report.{stretches_of}
 use Rattle.recovery_report.specs.Placing.{PartLies, part_end}
 use Rattle.recovery_report.proofs.PartLaws as parts
 use Rattle.recovery_report.proofs.Sounds.{quiet, sources_begin, sources_sound}
-use Rattle.recovery_report.proofs.Hearing.{cells_in, stays_whole, units_more}
+use Rattle.recovery_report.proofs.Hearing.{cells_to, from_fault_on, stays_whole, units_to}
 use Rattle.recovery_report.proofs.Rises.{rises}
+use Rattle.recovery_report.proofs.Spans.{to_in}
 
 -- whose it is: a source's, or the port's
 abbrev pub whose : Part → Option ℕ
@@ -85,25 +85,28 @@ module _ (plan : Plan) (x : ℕ) (kind : SourceKind) where
     -- a run of its own
     own_run : (run : List Cell) → IsRunFrom n run → id_of run ≡ Some x →
         Adds part_end whose (events_of plan) x n ms (Run run)
-    own_run run l i =
+    own_run [] l i = absurd l
+    own_run (c ∷ cells) l i =
+        let run = c ∷ cells in
         let o = parts.own plan kind x ms run k i in
         let read = reads_by plan.order kind in
         let sound = sources_sound plan.order kind in
+        let on = from_fault_on read (rises plan.order kind) (sources_begin plan.order kind) (quiet plan kind) in
         let r = stretches_of plan kind x ms in
         let h = packets_hunt plan.packets in
-        let whole = stays_whole read (rises plan.order kind) sound (quiet plan kind true) begins (list_of kind x ms)
+        let whole = stays_whole read (rises plan.order kind) from_fault sound on begins (list_of kind x ms)
         (before read from_fault h) (sources_begin plan.order kind h) in
-        let f = units_more read (rises plan.order kind) sound (quiet plan kind true) begins (units_in kind run) r
-        (start_of n) (end_of run) whole
-        (cells_in kind run n (end_of run) (start_of n) (within_run n run l) (at_most_self (start_of n))) in
+        let units = cells_to kind c cells n (end_of run) (within_run n run l) in
+        let f = units_to read (rises plan.order kind) from_fault sound on (units_in kind run) r (start_of n)
+        units.0 whole units.1 in
         record {
-          more = lifted f.more;
+          more = lifted f.0;
           given =
               said (ms ++ Run run ∷ []) k
               ∙ ap (λ (s : Stretches). lifted (heard_of read from_fault s).given) o.list
-              ∙ ap lifted f.is ∙ lifted_append (stream_of plan kind x ms).given f.more
-              ∙ ap (λ l. l ++ lifted f.more) (sym (said ms k));
-          all = all_lifted (start_of n) (end_of run) f.more f.all;
+              ∙ ap lifted f.1 ∙ lifted_append (stream_of plan kind x ms).given f.0
+              ∙ ap (λ l. l ++ lifted f.0) (sym (said ms k));
+          all = all_lifted (start_of n) (end_of run) f.0 (to_in (start_of n) units.0 (end_of run) f.0 f.2 units.2);
           own = λ other. absurd (other i);
         }
 

@@ -26,7 +26,7 @@ use Rattle.recovery_report.specs.Placing.{PartsBetween}
 use Rattle.recovery_report.specs.Report.{Part, Run, list_of, report_from_with, said_in, stretches_of}
 use Rattle.recovery_report.specs.Words.{AreOf, singles}
 use Rattle.recovery_report.proofs.Guesses.{run_more}
-use Rattle.recovery_report.proofs.Hearing.{stays_whole, units_grow}
+use Rattle.recovery_report.proofs.Hearing.{from_fault_on, stays_whole, units_grow}
 use Rattle.recovery_report.proofs.Nearing.{parts_below}
 use Rattle.recovery_report.proofs.PartLaws as laws
 use Rattle.recovery_report.proofs.Placing.{parts_le, parts_split}
@@ -87,14 +87,15 @@ module _ (plan : Plan) (kind : SourceKind) (x : ℕ) (k : kind_of plan x ≡ Som
       let h = packets_hunt plan.packets in
       let sound = sources_sound plan.order kind in
       let begins = sources_begin plan.order kind in
-      let whole = stays_whole reads (rises plan.order kind) sound (quiet plan kind true) (begins true)
-      (list_of kind x parts) (before reads from_fault h) (begins h) in
-      let g = units_grow reads (rises plan.order kind) sound (quiet plan kind true) (begins true) (units_in kind cells)
+      let on = from_fault_on reads (rises plan.order kind) begins (quiet plan kind) in
+      let whole = stays_whole reads (rises plan.order kind) from_fault sound on (begins true) (list_of kind x parts)
+      (before reads from_fault h) (begins h) in
+      let g = units_grow reads (rises plan.order kind) from_fault sound on (units_in kind cells)
       (stretches_of plan kind x parts) whole in
       (g.0, ap (λ (r : Stretches). (heard_of reads from_fault r).given) (singles_own cells parts a) ∙ g.1)
   grows true cells parts at a b =
       let s = parts_split parts (singles cells) 0 at b in
-      let near = run_more reads (rises plan.order kind) (sources_begin plan.order kind) (quiet plan kind true)
+      let near = run_more reads (rises plan.order kind) (sources_begin plan.order kind) (quiet plan kind)
       (sources_sound plan.order kind) kind cells s.mid at (stretches_of plan kind x parts)
       (singles_within cells s.mid at s.back) (parts_le (singles cells) s.mid at s.back)
       (parts_below plan parts s.mid s.front x kind) in
