@@ -165,7 +165,7 @@ module _ (w : ItmPacket → ℕ) (most : ℕ) (small : (n : ℕ) (p : ItmPacket)
       let es = capture_events ss plan.frames u in
       let merged = (capture_merged Packet ss (plan_lawful plan) plan.frames u 0 (length bytes) (capture_rises bytes) es).1 refl in
       let a = cut_few (Some x) (stop_in ss (port_reading plan.frames u)) es in
-      let b = ap (total w) (of_part x es ∙ ap (flat_map (λ (e : Event Packet). itm_packet e.what)) (merged.of_source x) ∙ told_said (Some x) (events ss x runs)) in
+      let b = ap (total w) (of_part x es ∙ ap (flat_map (λ (e : Event Packet). itm_packet e.what)) (merged.parts (Some x)) ∙ told_said (Some x) (events ss x runs)) in
       let c = events_few ss (mapped_few plan (mapped_ids plan)) x runs in
       let d : length (list_of x runs) * most ≤ length bytes * most = mul-le-mul_right most (source_few plan bytes x) in
       omega arith

@@ -25,7 +25,7 @@ use Rattle.stretch_readings.proofs.StretchLaws.{from_append}
 use Rattle.stretch_readings.specs.Stretches.{One, fed, fed_from, before}
 use Rattle.recovering_machines.specs.Port.{items_by, from_halfword, raised}
 use Rattle.recovery_report.specs.Port.{port_stretches, recovered}
-use Rattle.recovery_report.specs.Report.{Part, Run, Locks, parts_in, report_from_with, report_with}
+use Rattle.recovery_report.specs.Report.{Part, Run, Locks, parts_in, report_from, report_with}
 use Rattle.recovery_report.specs.Words.{AreOf, parts_by, singles}
 use Rattle.recovery_report.specs.Placing.{PartsBetween}
 use Rattle.recovery_report.proofs.Parting.{parts_placed}
@@ -124,7 +124,7 @@ module _ {S : Type 0} (gets : S → List (Event (Heard Packet)) → S → Type 0
 
   pub report_more : (at : ℕ) → BytesRise 0 at w → report_with guesses plan w ≡ report_with guesses plan u ++ t.0
   report_more at rise =
-      ap (λ l. report_from_with guesses plan [] l) e
+      ap (λ l. report_from guesses plan [] l) e
       ∙ (t.2 guesses plan (parts_in (recovered plan.frames u)) k).grew at
       (subst (PartsBetween 0 at) e (parts_placed plan.frames w 0 at rise))
 

@@ -30,9 +30,9 @@ use Rattle.stretch_readings.proofs.StretchLaws as stretches
 use Rattle.recovering_machines.specs.Port.{items_by, from_halfword}
 use Rattle.recovering_machines.proofs.Feeding.{same}
 use Rattle.recovery_report.specs.Port.{of_stretches, port_stretches, recovered, stretch_of}
-use Rattle.recovery_report.specs.Report.{Part, Run, parts_in, parts_of, report_from_with, report_with}
+use Rattle.recovery_report.specs.Report.{Part, Run, parts_in, parts_of, report_from, report_with}
 use Rattle.recovery_report.specs.Words.{parts_by}
-use Rattle.recovery_report.proofs.PartLaws.{report_append_with}
+use Rattle.recovery_report.proofs.PartLaws.{report_append}
 use Rattle.recovery_report.proofs.PortLaws as laws
 use Rattle.recovery_report.proofs.Sounds.{port_begins, port_sound}
 use Rattle.recovery_engine.proofs.Feeding.{bare_parts, port_push}
@@ -160,9 +160,9 @@ pub report_grows : (guesses : Bool) (plan : Plan) (xs ys : List ℕ) → (given 
 report_grows guesses plan xs ys =
     let more = with_bytes plan.frames (placed xs) (length xs) ys in
     let parts = parts_in (recovered plan.frames (placed xs)) in (
-      report_from_with guesses plan parts more.0,
-      ap (report_with guesses plan) (placed_append xs ys) ∙ ap (report_from_with guesses plan []) more.1
-          ∙ report_append_with guesses plan parts more.0 [],
+      report_from guesses plan parts more.0,
+      ap (report_with guesses plan) (placed_append xs ys) ∙ ap (report_from guesses plan []) more.1
+          ∙ report_append guesses plan parts more.0 [],
     )
 
 -- of no bytes there is no event
@@ -171,4 +171,4 @@ no_parts Aligned = refl
 no_parts x = refl
 
 pub nothing_first : (guesses : Bool) (plan : Plan) → report_with guesses plan (placed []) ≡ []
-nothing_first guesses plan = ap (report_from_with guesses plan []) (no_parts plan.frames)
+nothing_first guesses plan = ap (report_from guesses plan []) (no_parts plan.frames)

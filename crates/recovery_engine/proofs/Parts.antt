@@ -8,7 +8,7 @@ use Rattle.trace_values.specs.Stream.{Stream}
 use Rattle.frame_grammar.specs.Reading.{is_source}
 use Rattle.deformatter.specs.Rising.{CellsRise}
 use Rattle.source_events.specs.declared.event.Event.{Event}
-use Rattle.source_events.specs.declared.event.What.TheVariants.{Locked}
+use Rattle.source_events.specs.declared.event.What.TheVariants.{Locked, Packet as Said}
 use Rattle.source_events.specs.declared.packet.Packet.{Packet}
 use Rattle.source_events.specs.declared.plan.Plan.{Plan}
 use Rattle.source_events.specs.declared.plan.SourceKind.{SourceKind}
@@ -19,6 +19,7 @@ use Rattle.source_events.specs.Runs.{id_of}
 use Rattle.source_events.proofs.Merges.{same_or_not, test_other}
 use Rattle.source_machine.specs.Units.{reads_by}
 use Rattle.stretch_readings.specs.declared.heard.Heard.{Heard}
+use Rattle.stretch_readings.specs.declared.heard.Heard.TheVariants.{Broken}
 use Rattle.stretch_readings.specs.Guessing.{said_of}
 use Rattle.stretch_readings.specs.Stretches.{One, Stretches, fed_from, from_fault, parted}
 use Rattle.recovering_machines.specs.Mapped.{Guesses, IsCut, Stands, kind_of, reads_of, with_run}
@@ -26,7 +27,7 @@ use Rattle.recovering_machines.specs.Run.{units_in}
 use Rattle.recovering_machines.specs.declared.mapped.MappedSource.{MappedSource}
 use Rattle.recovering_machines.proofs.Mapping.{guesses_later}
 use Rattle.recovery_report.specs.Placing.{PartsBetween}
-use Rattle.recovery_report.specs.Report.{Part, Run, Locks, Breaks, added_by_with, added_with, report_from_with}
+use Rattle.recovery_report.specs.Report.{Part, Run, Locks, Breaks, added, report_from}
 use Rattle.recovery_report.specs.Report.{said_in, stretches_of}
 use Rattle.recovery_report.specs.Words.{AreOf, singles}
 use Rattle.recovery_report.proofs.PartLaws as laws
@@ -49,8 +50,8 @@ module _ {S : Type 0} (gets : S → Heards → S → Type 0) where
     λ guesses plan parts k. record {
       list = subst (λ l. StandFor guesses plan l a.0) (sym (append-nil parts)) k;
       grew = λ at b.
-          ap (λ l. report_from_with guesses plan [] l) (append-nil parts)
-          ∙ sym (append-nil (report_from_with guesses plan [] parts));
+          ap (λ l. report_from guesses plan [] l) (append-nil parts)
+          ∙ sym (append-nil (report_from guesses plan [] parts));
     },
   )
 
@@ -69,21 +70,21 @@ module _ {S : Type 0} (gets : S → Heards → S → Type 0) where
               let all : PartsBetween 0 at ((parts ++ ms) ++ ns) =
               subst (PartsBetween 0 at) (sym (append_assoc parts ms ns)) b in
               let first = parts_split (parts ++ ms) ns 0 at all in
-              ap (λ l. report_from_with guesses plan [] l) (sym (append_assoc parts ms ns)) ∙ h.grew at all
+              ap (λ l. report_from guesses plan [] l) (sym (append_assoc parts ms ns)) ∙ h.grew at all
               ∙ ap (λ l. l ++ s.0) (g.grew first.mid first.front)
-              ∙ append_assoc (report_from_with guesses plan [] parts) t.0 s.0;
+              ∙ append_assoc (report_from guesses plan [] parts) t.0 s.0;
         },
   )
 
 -- one part: what it is to each source, and what it adds
 pub grown_by : (guesses : Bool) (plan : Plan) (parts : List Part) (m : Part) (slots : List RecoveringSlot)
     (given : Heards) → StandFor guesses plan (parts ++ m ∷ []) slots →
-    ((at : ℕ) → PartsBetween 0 at (parts ++ m ∷ []) → added_with guesses plan parts m ≡ given) →
+    ((at : ℕ) → PartsBetween 0 at (parts ++ m ∷ []) → added guesses plan parts m ≡ given) →
     Grown guesses plan parts (m ∷ []) slots given
 grown_by guesses plan parts m slots given k e = record {
   list = k;
   grew = λ at b.
-      laws.growing_with guesses plan parts m ∙ ap (λ l. report_from_with guesses plan [] parts ++ l) (e at b);
+      laws.growing guesses plan parts m ∙ ap (λ l. report_from guesses plan [] parts ++ l) (e at b);
 }
 
 -- a source whose stretches stay as they are with more parts
@@ -116,7 +117,7 @@ pub grown_none : (guesses : Bool) (plan : Plan) (parts : List Part) (run : List 
 grown_none guesses plan parts run slots e k =
     grown_by guesses plan parts (Run run) slots [] (λ x. same_at guesses plan parts (Run run) x (source_at slots x)
     (λ kind. laws.other plan kind x parts run (ap (is_source x) e)) (k x))
-    (λ at b. ap (λ o. added_by_with guesses plan parts o (Run run)) e)
+    (λ at b. laws.of_port guesses plan parts (Run run) e)
 
 -- one of another source
 other_run : (x y : ℕ) (run : List Cell) → id_of run ≡ Some x → y ≢ x → is_source y (id_of run) ≡ false
@@ -134,7 +135,7 @@ grown_raw guesses plan parts run x slots e n k =
       | inr q ↦ same_at guesses plan parts (Run run) y (source_at slots y)
           (λ kind. laws.other plan kind y parts run (other_run x y run e q)) (k y)
     ])
-    (λ at b. laws.raw_with guesses plan x parts run none e)
+    (λ at b. laws.raw guesses plan x parts run none e)
 
 -- Cells that a source took as some parts, which are its units: it stands for its stretches with them.
 module _ {S : Type 0} (gets : S → Heards → S → Type 0) (room : S → ℕ) (guesses : Bool) (plan : Plan)
@@ -207,7 +208,7 @@ pub grown_own : {S : Type 0} (gets : S → Heards → S → Type 0) (room : S �
 grown_own gets room guesses plan parts run x old new e k t =
     let kind = kind_of t.before in
     let own = its_own gets room guesses plan parts (Run run ∷ []) run x old new k t in
-    let o = laws.own_with guesses plan kind x parts run own.kind e in
+    let o = laws.own guesses plan kind x parts run own.kind e in
     grown_by guesses plan parts (Run run) new.0 (told (Some x) (lifted t.takes.said))
     (stand_own gets room guesses plan parts (Run run ∷ []) run x old new k t o.list (run_rises run)
     (λ y q z. laws.other plan z y parts run (other_run x y run e q)))
@@ -231,7 +232,8 @@ grown_lock guesses plan parts n skipped place slots e k =
     grown_by guesses plan parts (Locks n place) slots (told None ((Locked skipped, place) ∷ []))
     (λ x. same_at guesses plan parts (Locks n place) x (source_at slots x)
     (λ kind. laws.lock plan kind x parts n place) (k x))
-    (λ at b. ap (λ m. told None ((Locked m, place) ∷ [])) (sym e))
+    (λ at b. laws.of_port guesses plan parts (Locks n place) refl
+    ∙ ap (λ m. told None ((Locked m, place) ∷ [])) (sym e))
 
 module _ (guesses : Bool) (plan : Plan) (parts : List Part) (reason : Reason) (place : Place) where
   abbrev after : List Part
@@ -266,10 +268,11 @@ module _ (guesses : Bool) (plan : Plan) (parts : List Part) (reason : Reason) (p
   cut_at x (Some s) None c k = absurd c
 
   pub grown_break : (old new : List RecoveringSlot) → AreCut old new → StandFor guesses plan parts old →
-      Grown guesses plan parts (Breaks reason place ∷ []) new (added_with guesses plan parts (Breaks reason place))
+      Grown guesses plan parts (Breaks reason place ∷ []) new (told None ((Said (Broken reason), place) ∷ []))
   grown_break old new c k =
-      grown_by guesses plan parts (Breaks reason place) new (added_with guesses plan parts (Breaks reason place))
-      (λ x. cut_at x (source_at old x) (source_at new x) (c x) (k x)) (λ at b. refl)
+      grown_by guesses plan parts (Breaks reason place) new (told None ((Said (Broken reason), place) ∷ []))
+      (λ x. cut_at x (source_at old x) (source_at new x) (c x) (k x))
+      (λ at b. laws.of_port guesses plan parts (Breaks reason place) refl)
 
 -- Cells each of which is a run of its own: those of a source that is not mapped.
 pub grown_raws : (guesses : Bool) (plan : Plan) (cells : List Cell) (parts : List Part) (x : ℕ)
@@ -278,8 +281,8 @@ pub grown_raws : (guesses : Bool) (plan : Plan) (cells : List Cell) (parts : Lis
 grown_raws guesses plan [] parts x slots a n k = record {
   list = subst (λ l. StandFor guesses plan l slots) (sym (append-nil parts)) k;
   grew = λ at b.
-      ap (λ l. report_from_with guesses plan [] l) (append-nil parts)
-      ∙ sym (append-nil (report_from_with guesses plan [] parts));
+      ap (λ l. report_from guesses plan [] l) (append-nil parts)
+      ∙ sym (append-nil (report_from guesses plan [] parts));
 }
 grown_raws guesses plan (c ∷ cells) parts x slots a n k =
     let own : List Part = Run (c ∷ []) ∷ [] in
@@ -292,9 +295,9 @@ grown_raws guesses plan (c ∷ cells) parts x slots a n k =
           let all : PartsBetween 0 at ((parts ++ own) ++ singles cells) =
           subst (PartsBetween 0 at) (sym (append_assoc parts own (singles cells))) b in
           let first = parts_split (parts ++ own) (singles cells) 0 at all in
-          ap (λ l. report_from_with guesses plan [] l) (sym (append_assoc parts own (singles cells)))
+          ap (λ l. report_from guesses plan [] l) (sym (append_assoc parts own (singles cells)))
           ∙ rest.grew at all ∙ ap (λ l. l ++ raw_each x cells) (one.grew first.mid first.front)
-          ∙ append_assoc (report_from_with guesses plan [] parts) said (raw_each x cells);
+          ∙ append_assoc (report_from guesses plan [] parts) said (raw_each x cells);
     }
 
 -- or of one which is
@@ -310,8 +313,8 @@ grown_each gets room guesses plan parts cells x old new a k t =
       list = stand_own gets room guesses plan parts (singles cells) cells x old new k t list (singles_rise cells)
           (λ y q z. singles_other plan z x y cells parts (test_other x y (λ e. q (sym e))) a);
       grew = λ at b.
-          laws.report_append_with guesses plan parts (singles cells) []
-          ∙ ap (λ l. report_from_with guesses plan [] parts ++ l)
+          laws.report_append guesses plan parts (singles cells) []
+          ∙ ap (λ l. report_from guesses plan [] parts ++ l)
           (singles_added plan kind x own.kind guesses cells parts at t.takes.said a b
           (says_more gets room guesses plan parts (singles cells) cells x old new k t list (singles_rise cells) at b));
     }

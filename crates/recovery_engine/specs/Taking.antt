@@ -8,7 +8,7 @@ use Rattle.stretch_readings.specs.declared.heard.Heard.{Heard}
 use Rattle.recovering_machines.specs.Mapped.{IsCut, TakesMapped}
 use Rattle.recovering_machines.specs.declared.mapped.MappedSource.{MappedSource}
 use Rattle.recovery_report.specs.Placing.{PartsBetween}
-use Rattle.recovery_report.specs.Report.{Part, report_from_with}
+use Rattle.recovery_report.specs.Report.{Part, report_from}
 use Rattle.recovery_engine.specs.Slots.{StandFor, source_at}
 use Rattle.recovery_engine.specs.declared.slot.RecoveringSlot.{RecoveringSlot}
 
@@ -18,7 +18,7 @@ pub record Grown (guesses : Bool) (plan : Plan) (parts more : List Part) (slots 
     (given : List (Event (Heard Packet))) : Type 0 where
   pub list : StandFor guesses plan (parts ++ more) slots
   pub grew : (at : ℕ) → PartsBetween 0 at (parts ++ more) →
-      report_from_with guesses plan [] (parts ++ more) ≡ report_from_with guesses plan [] parts ++ given
+      report_from guesses plan [] (parts ++ more) ≡ report_from guesses plan [] parts ++ given
 
 -- These parts were taken, whatever came before: what they add to the report was given.
 abbrev pub Takes : {S : Type 0} → (S → List (Event (Heard Packet)) → S → Type 0) → List Part →

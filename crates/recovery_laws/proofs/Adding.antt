@@ -1,175 +1,220 @@
--- What one more part adds to the events of each source.
-use Rattle.std.proofs.Common.{◌≡◌, ℕ, List, [], ◌∷◌, ◌++◌, map, refl, sym, ◌∙◌, ap, inl, inr, ◌⊎◌}
-use Rattle.std.proofs.Common.{append-nil, Option, None, Some, true, false}
+-- What one more part adds to what the port and each source say, with guesses or without.
+use Rattle.std.proofs.Common.{◌≡◌, ℕ, ◌+◌, ◌<◌, ◌≤◌, List, [], ◌∷◌, ◌++◌, map, refl, sym, ◌∙◌, ap, inl, inr, ◌⊎◌}
+use Rattle.std.proofs.Common.{append-nil, arith, Option, None, Some, Bool, true, false}
 use Rattle.std.specs.Prelude.{flat_map}
-use Rattle.std.proofs.lemmas.Grind.{flat_map-append}
 use Rattle.trace_values.specs.declared.cell.Cell.{Cell}
 use Rattle.trace_values.specs.declared.fault.Reason.{Reason}
-use Rattle.trace_values.specs.Placed.{Place}
+use Rattle.trace_values.specs.Placed.{Place, Placed}
 use Rattle.trace_values.specs.ReadingModes.{packets_hunt}
+use Rattle.trace_values.specs.Stream.{Said, Stream}
 use Rattle.frame_grammar.specs.Reading.{is_source}
-use Rattle.source_events.specs.declared.event.What.{What}
 use Rattle.source_events.specs.declared.packet.Packet.{Packet}
 use Rattle.source_events.specs.declared.plan.Plan.{Plan}
 use Rattle.source_events.specs.declared.plan.SourceKind.{SourceKind}
-use Rattle.source_events.specs.Merge.{start_of}
+use Rattle.source_events.specs.Merge.{AllIn, IsAtMost, start_of}
 use Rattle.source_events.specs.Plan.{kind_of}
 use Rattle.source_events.specs.Report.{lifted, raw_events, raws}
 use Rattle.source_events.specs.Runs.{end_of, id_of, IsRunFrom}
-use Rattle.source_events.proofs.Adding.{Adds, AddsAlways}
+use Rattle.source_events.proofs.Adding.{Adds, AddsAlways, GoesOn}
 use Rattle.source_events.proofs.Family.{all_lifted, all_raw, of_cases, raws_other, raws_own, within_run}
-use Rattle.source_events.proofs.Merges.{at_most_self}
+use Rattle.source_events.proofs.Merges.{test_same}
 use Rattle.source_machine.specs.Units.{reads_by}
 use Rattle.stretch_readings.specs.declared.heard.Heard.{Heard}
+use Rattle.stretch_readings.specs.Guessing.{near_of, said_of}
 use Rattle.stretch_readings.specs.Stretches.{Stretches, before, broken, from_fault, heard, heard_of}
 use Rattle.stretch_readings.proofs.Feeding.{given_parted}
 use Rattle.recovering_machines.specs.Run.{units_in}
 use Rattle.recovering_machines.proofs.Runs.{lifted_append}
-use Rattle.recovery_report.specs.Report.{Part, Run, Locks, Breaks, events_by, events_of, list_of, run_in, stream_of}
-use Rattle.recovery_report.specs.Report.{stretches_of}
+use Rattle.recovery_report.specs.Report.{Part, Run, Locks, Breaks, events_by, list_of, port_said, run_in}
+use Rattle.recovery_report.specs.Report.{said_by, said_in, stretches_of, whose}
 use Rattle.recovery_report.specs.Placing.{PartLies, part_end}
+use Rattle.recovery_report.proofs.Guesses.{cut_near}
+use Rattle.recovery_report.proofs.Nearing.{AllBelow, near}
 use Rattle.recovery_report.proofs.PartLaws as parts
 use Rattle.recovery_report.proofs.Sounds.{quiet, sources_begin, sources_sound}
-use Rattle.recovery_report.proofs.Hearing.{cells_in, stays_whole, units_more}
+use Rattle.recovery_report.proofs.Hearing.{cells_to, from_fault_on, stays_whole, units_to}
 use Rattle.recovery_report.proofs.Rises.{rises}
-
--- whose it is: a source's, or the port's
-abbrev pub whose : Part → Option ℕ
-whose (Run run) = id_of run
-whose (Locks skipped place) = None
-whose (Breaks reason place) = None
-
-abbrev Heards : Type 0
-Heards = List (What (Heard Packet) × Place)
-
-runs_push : (ms : List Part) (m : Part) → flat_map run_in (ms ++ m ∷ []) ≡ flat_map run_in ms ++ run_in m
-runs_push ms m = flat_map-append run_in ms (m ∷ []) ∙ ap (λ l. flat_map run_in ms ++ l) (append-nil (run_in m))
+use Rattle.recovery_report.proofs.Spans.{to_in}
 
 -- a mapped source
 module _ (plan : Plan) (x : ℕ) (kind : SourceKind) where
-  abbrev begins : (reads_by plan.order kind true []).fault ≡ None
-  begins = sources_begin plan.order kind true
+  abbrev read : Bool → List Placed → Stream Packet
+  read = reads_by plan.order kind
 
-  said : (ms : List Part) → kind_of plan x ≡ Some kind → events_of plan x ms ≡ lifted (stream_of plan kind x ms).given
-  said ms k = ap (λ o. events_by plan o x ms) k
+  abbrev begins : (h : Bool) → (read h []).fault ≡ None
+  begins = sources_begin plan.order kind
 
   -- it says nothing of nothing
-  nothing : kind_of plan x ≡ Some kind → events_of plan x [] ≡ []
-  nothing k =
-      let h = packets_hunt plan.packets in
-      let read = reads_by plan.order kind in
-      said [] k
-      ∙ ap (λ l. lifted (map (heard read from_fault 0) l ++ broken read from_fault (read h []).fault))
-      (quiet plan kind h)
-      ∙ ap (λ o. lifted (broken read from_fault o)) (sources_begin plan.order kind h)
+  nothing : (guesses : Bool) → said_in guesses plan kind x [] ≡ []
+  nothing guesses = by guesses none where
+    h : Bool
+    h = packets_hunt plan.packets
 
-  module _ (n : ℕ) (ms : List Part) (k : kind_of plan x ≡ Some kind) where
-    -- where its stretches say what they said
-    same_by : (m : Part) → (stream_of plan kind x (ms ++ m ∷ [])).given ≡ (stream_of plan kind x ms).given →
-        events_of plan x (ms ++ m ∷ []) ≡ events_of plan x ms ++ []
-    same_by m e = said (ms ++ m ∷ []) k ∙ ap lifted e ∙ sym (said ms k) ∙ sym (append-nil (events_of plan x ms))
+    none : map (heard read from_fault 0) (read h []).given ++ broken read from_fault (read h []).fault ≡ []
+    none =
+        ap (λ l. map (heard read from_fault 0) l ++ broken read from_fault (read h []).fault) (quiet plan kind h)
+        ∙ ap (broken read from_fault) (begins h)
 
-    given_by : (m : Part) → stretches_of plan kind x (ms ++ m ∷ []) ≡ stretches_of plan kind x ms →
-        events_of plan x (ms ++ m ∷ []) ≡ events_of plan x ms ++ []
-    given_by m e = same_by m (ap (λ (r : Stretches). (heard_of (reads_by plan.order kind) from_fault r).given) e)
+    by : (guesses : Bool) →
+        map (heard read from_fault 0) (read h []).given ++ broken read from_fault (read h []).fault ≡ [] →
+        said_in guesses plan kind x [] ≡ []
+    by false e = e
+    by true e =
+        append-nil (map (heard read from_fault 0) (read h []).given ++ broken read from_fault (read h []).fault) ∙ e
+
+  module _ (n : ℕ) (ms : List Part) (all : AllBelow plan n ms) where
+    abbrev old : Stretches
+    old = stretches_of plan kind x ms
 
     -- a cut
-    cut_same : (reason : Reason) (place : Place) →
-        events_of plan x (ms ++ Breaks reason place ∷ []) ≡ events_of plan x ms ++ []
-    cut_same reason place =
-        same_by (Breaks reason place)
-        (ap (λ (r : Stretches). (heard_of (reads_by plan.order kind) from_fault r).given)
-        (parts.cut plan kind x ms reason place)
-        ∙ given_parted (reads_by plan.order kind) (stretches_of plan kind x ms) (quiet plan kind true) begins)
+    cut_same : (guesses : Bool) (reason : Reason) (place : Place) →
+        said_in guesses plan kind x (ms ++ Breaks reason place ∷ []) ≡ said_in guesses plan kind x ms
+    cut_same false reason place =
+        ap (λ (r : Stretches). (heard_of read from_fault r).given) (parts.cut plan kind x ms reason place)
+        ∙ given_parted read old (quiet plan kind true) (begins true)
+    cut_same true reason place =
+        ap (near_of read from_fault) (parts.cut plan kind x ms reason place)
+        ∙ cut_near read (rises plan.order kind) begins (quiet plan kind) (sources_sound plan.order kind) old
 
     -- a run of its own
-    own_run : (run : List Cell) → IsRunFrom n run → id_of run ≡ Some x →
-        Adds part_end whose (events_of plan) x n ms (Run run)
-    own_run run l i =
-        let o = parts.own plan kind x ms run k i in
-        let read = reads_by plan.order kind in
+    own_run : (guesses : Bool) (run : List Cell) → IsRunFrom n run → id_of run ≡ Some x →
+        (more : List (Said (Heard Packet) × Place))
+        × (said_in guesses plan kind x (ms ++ Run run ∷ []) ≡ said_in guesses plan kind x ms ++ more)
+        × AllIn (start_of n) (end_of run) more
+    own_run guesses [] l i = absurd l
+    own_run false (c ∷ cells) l i =
+        let run = c ∷ cells in
         let sound = sources_sound plan.order kind in
-        let r = stretches_of plan kind x ms in
+        let on = from_fault_on read (rises plan.order kind) begins (quiet plan kind) in
         let h = packets_hunt plan.packets in
-        let whole = stays_whole read (rises plan.order kind) sound (quiet plan kind true) begins (list_of kind x ms)
-        (before read from_fault h) (sources_begin plan.order kind h) in
-        let f = units_more read (rises plan.order kind) sound (quiet plan kind true) begins (units_in kind run) r
-        (start_of n) (end_of run) whole
-        (cells_in kind run n (end_of run) (start_of n) (within_run n run l) (at_most_self (start_of n))) in
-        record {
-          more = lifted f.more;
-          given =
-              said (ms ++ Run run ∷ []) k
-              ∙ ap (λ (s : Stretches). lifted (heard_of read from_fault s).given) o.list
-              ∙ ap lifted f.is ∙ lifted_append (stream_of plan kind x ms).given f.more
-              ∙ ap (λ l. l ++ lifted f.more) (sym (said ms k));
-          all = all_lifted (start_of n) (end_of run) f.more f.all;
-          own = λ other. absurd (other i);
-        }
+        let whole = stays_whole read (rises plan.order kind) from_fault sound on (begins true) (list_of kind x ms)
+        (before read from_fault h) (begins h) in
+        let units = cells_to kind c cells n (end_of run) (within_run n run l) in
+        let f = units_to read (rises plan.order kind) from_fault sound on (units_in kind run) old (start_of n)
+        units.0 whole units.1 in (
+          f.0,
+          ap (λ (r : Stretches). (heard_of read from_fault r).given)
+              (parts.own_list plan kind x ms run (ap (is_source x) i ∙ test_same x x refl)) ∙ f.1,
+          to_in (start_of n) units.0 (end_of run) f.0 f.2 units.2,
+        )
+    own_run true (c ∷ cells) l i =
+        let k = near plan n ms all x kind (Run (c ∷ cells)) l in (k.extra, k.is, k.all)
 
--- a source that is not mapped
-module _ (plan : Plan) (x n : ℕ) (ms : List Part) (none : kind_of plan x ≡ None) where
-  raw_said : (l : List Part) → events_of plan x l ≡ raws x (flat_map run_in l)
-  raw_said l = ap (λ o. events_by plan o x l) none
-
-  raw_more : (m : Part) (more : Heards) →
-      raws x (flat_map run_in ms ++ run_in m) ≡ raws x (flat_map run_in ms) ++ more →
-      events_of plan x (ms ++ m ∷ []) ≡ events_of plan x ms ++ more
-  raw_more m more e =
-      raw_said (ms ++ m ∷ []) ∙ ap (raws x) (runs_push ms m) ∙ e ∙ ap (λ l. l ++ more) (sym (raw_said ms))
-
-  raw_same : (m : Part) → run_in m ≡ [] → events_of plan x (ms ++ m ∷ []) ≡ events_of plan x ms ++ []
-  raw_same m e =
-      raw_more m [] (ap (λ l. raws x (flat_map run_in ms ++ l)) e ∙ ap (raws x) (append-nil (flat_map run_in ms))
-      ∙ sym (append-nil (raws x (flat_map run_in ms))))
-
-module _ (plan : Plan) (x n : ℕ) (ms : List Part) where
+module _ (guesses : Bool) (plan : Plan) (x n : ℕ) (ms : List Part) (all : AllBelow plan n ms) where
   abbrev More : Part → Type 0
-  More m = Adds part_end whose (events_of plan) x n ms m
+  More m = Adds part_end whose (said_by guesses plan) (Some x) n ms m
 
   -- a part that is not this source's
-  no_more : (m : Part) → events_of plan x (ms ++ m ∷ []) ≡ events_of plan x ms ++ [] → More m
-  no_more m e = record { more = []; given = e; all = tt; own = λ k. refl }
+  no_more : (m : Part) → said_by guesses plan (Some x) (ms ++ m ∷ []) ≡ said_by guesses plan (Some x) ms → More m
+  no_more m e = record {
+    more = [];
+    given = e ∙ sym (append-nil (said_by guesses plan (Some x) ms));
+    all = tt;
+    own = λ k. refl;
+  }
+
+  -- of a source that is mapped
+  said : (kind : SourceKind) → kind_of plan x ≡ Some kind → (l : List Part) →
+      said_by guesses plan (Some x) l ≡ lifted (said_in guesses plan kind x l)
+  said kind k l = ap (λ o. events_by guesses plan o x l) k
+
+  said_same : (kind : SourceKind) → kind_of plan x ≡ Some kind → (m : Part) →
+      said_in guesses plan kind x (ms ++ m ∷ []) ≡ said_in guesses plan kind x ms → More m
+  said_same kind k m e = no_more m (said kind k (ms ++ m ∷ []) ∙ ap lifted e ∙ sym (said kind k ms))
+
+  same : (kind : SourceKind) → kind_of plan x ≡ Some kind → (m : Part) →
+      stretches_of plan kind x (ms ++ m ∷ []) ≡ stretches_of plan kind x ms → More m
+  same kind k m e = said_same kind k m (ap (λ r. said_of (reads_by plan.order kind) from_fault guesses r) e)
+
+  -- and of one that is not
+  raw_said : kind_of plan x ≡ None → (l : List Part) → said_by guesses plan (Some x) l ≡ raws x (flat_map run_in l)
+  raw_said k l = ap (λ o. events_by guesses plan o x l) k
+
+  raw_push : kind_of plan x ≡ None → (m : Part) →
+      said_by guesses plan (Some x) (ms ++ m ∷ []) ≡ raws x (flat_map run_in ms ++ run_in m)
+  raw_push k m = raw_said k (ms ++ m ∷ []) ∙ ap (raws x) (parts.runs_push ms m)
+
+  raw_same : kind_of plan x ≡ None → (m : Part) → run_in m ≡ [] → More m
+  raw_same k m e =
+      no_more m (raw_push k m ∙ ap (λ l. raws x (flat_map run_in ms ++ l)) e
+      ∙ ap (raws x) (append-nil (flat_map run_in ms)) ∙ sym (raw_said k ms))
 
   run_more : (run : List Cell) → IsRunFrom n run → More (Run run)
   run_more run l = by (kind_of plan x) refl (of_cases x (id_of run)) where
     by : (o : Option SourceKind) → kind_of plan x ≡ o →
         (((id_of run ≡ Some x) × (is_source x (id_of run) ≡ true))
         ⊎ ((id_of run ≡ Some x → ⊥) × (is_source x (id_of run) ≡ false))) → More (Run run)
-    by (Some kind) k (inl i) = own_run plan x kind n ms k run l i.0
-    by (Some kind) k (inr i) =
-        no_more (Run run) (given_by plan x kind n ms k (Run run) (parts.other plan kind x ms run i.1))
+    by (Some kind) k (inl i) =
+        let o = own_run plan x kind n ms all guesses run l i.0 in
+        record {
+          more = lifted o.0;
+          given =
+              said kind k (ms ++ Run run ∷ []) ∙ ap lifted o.1
+              ∙ lifted_append (said_in guesses plan kind x ms) o.0 ∙ ap (λ e. e ++ lifted o.0) (sym (said kind k ms));
+          all = all_lifted (start_of n) (end_of run) o.0 o.2;
+          own = λ other. absurd (other i.0);
+        }
+    by (Some kind) k (inr i) = same kind k (Run run) (parts.other plan kind x ms run i.1)
     by None k (inl i) = record {
       more = raw_events x run;
-      given = raw_more plan x n ms k (Run run) (raw_events x run) (raws_own x (flat_map run_in ms) run i.1);
+      given =
+          raw_push k (Run run) ∙ raws_own x (flat_map run_in ms) run i.1
+          ∙ ap (λ e. e ++ raw_events x run) (sym (raw_said k ms));
       all = all_raw (Heard Packet) x n run l;
       own = λ other. absurd (other i.0);
     }
     by None k (inr i) =
-        no_more (Run run) (raw_more plan x n ms k (Run run) [] (raws_other x (flat_map run_in ms) run i.1))
+        no_more (Run run) (raw_push k (Run run) ∙ raws_other x (flat_map run_in ms) run i.1
+        ∙ append-nil (raws x (flat_map run_in ms)) ∙ sym (raw_said k ms))
 
   lock_more : (skipped : ℕ) (place : Place) → More (Locks skipped place)
-  lock_more skipped place = no_more (Locks skipped place) (by (kind_of plan x) refl) where
-    by : (o : Option SourceKind) → kind_of plan x ≡ o →
-        events_of plan x (ms ++ Locks skipped place ∷ []) ≡ events_of plan x ms ++ []
-    by None k = raw_same plan x n ms k (Locks skipped place) refl
-    by (Some kind) k = given_by plan x kind n ms k (Locks skipped place) (parts.lock plan kind x ms skipped place)
+  lock_more skipped place = by (kind_of plan x) refl where
+    by : (o : Option SourceKind) → kind_of plan x ≡ o → More (Locks skipped place)
+    by None k = raw_same k (Locks skipped place) refl
+    by (Some kind) k = same kind k (Locks skipped place) (parts.lock plan kind x ms skipped place)
 
   break_more : (reason : Reason) (place : Place) → More (Breaks reason place)
-  break_more reason place = no_more (Breaks reason place) (by (kind_of plan x) refl) where
-    by : (o : Option SourceKind) → kind_of plan x ≡ o →
-        events_of plan x (ms ++ Breaks reason place ∷ []) ≡ events_of plan x ms ++ []
-    by None k = raw_same plan x n ms k (Breaks reason place) refl
-    by (Some kind) k = cut_same plan x kind n ms k reason place
+  break_more reason place = by (kind_of plan x) refl where
+    by : (o : Option SourceKind) → kind_of plan x ≡ o → More (Breaks reason place)
+    by None k = raw_same k (Breaks reason place) refl
+    by (Some kind) k =
+        said_same kind k (Breaks reason place) (cut_same plan x kind n ms all guesses reason place)
 
--- Each part adds to the events of its own source alone, and what it adds is in it.
-pub adds : (plan : Plan) → AddsAlways PartLies part_end whose (events_of plan)
-adds plan x n ms (Run run) l = run_more plan x n ms run l
-adds plan x n ms (Locks skipped place) l = lock_more plan x n ms skipped place
-adds plan x n ms (Breaks reason place) l = break_more plan x n ms reason place
+-- the port
+after_start : (n : ℕ) (p : Place) → n ≤ p.at → IsAtMost (start_of n) p
+after_start n p l = grind arith
 
-pub none_first : (plan : Plan) (x : ℕ) → events_of plan x [] ≡ []
-none_first plan x = by (kind_of plan x) refl where
-  by : (o : Option SourceKind) → kind_of plan x ≡ o → events_of plan x [] ≡ []
-  by None k = ap (λ o. events_by plan o x []) k
-  by (Some kind) k = nothing plan x kind k
+port_all : (n : ℕ) (m : Part) → PartLies n m → AllIn (start_of n) (part_end m) (port_said m)
+port_all n (Run run) l = tt
+port_all n (Locks skipped place) l =
+    (after_start n place l, (let z : place.at < place.at + 1 = omega arith in z), tt)
+port_all n (Breaks reason place) l =
+    (after_start n place l, (let z : place.at < place.at + 1 = omega arith in z), tt)
+
+port_own : (m : Part) → (whose m ≡ None → ⊥) → port_said m ≡ []
+port_own (Run run) o = refl
+port_own (Locks skipped place) o = absurd (o refl)
+port_own (Breaks reason place) o = absurd (o refl)
+
+-- Each part adds to what its own source says alone, or the port, and what it adds is in it.
+pub adds : (guesses : Bool) (plan : Plan) →
+    AddsAlways (AllBelow plan) PartLies part_end whose (said_by guesses plan)
+adds guesses plan None n ms m all l = record {
+  more = port_said m;
+  given = parts.port_push ms m;
+  all = port_all n m l;
+  own = port_own m;
+}
+adds guesses plan (Some x) n ms (Run run) all l = run_more guesses plan x n ms all run l
+adds guesses plan (Some x) n ms (Locks skipped place) all l = lock_more guesses plan x n ms all skipped place
+adds guesses plan (Some x) n ms (Breaks reason place) all l = break_more guesses plan x n ms all reason place
+
+pub goes_on : (plan : Plan) → GoesOn (AllBelow plan) PartLies part_end
+goes_on plan n ms m all l = λ x kind. (near plan n ms all x kind m l).below
+
+pub none_first : (guesses : Bool) (plan : Plan) (x : Option ℕ) → said_by guesses plan x [] ≡ []
+none_first guesses plan None = refl
+none_first guesses plan (Some x) = by (kind_of plan x) refl where
+  by : (o : Option SourceKind) → kind_of plan x ≡ o → said_by guesses plan (Some x) [] ≡ []
+  by None k = ap (λ o. events_by guesses plan o x []) k
+  by (Some kind) k = ap (λ o. events_by guesses plan o x []) k ∙ ap lifted (nothing plan x kind guesses)

@@ -1,6 +1,6 @@
 -- The report of a capture is the strict one up to its first fault.
 use Rattle.std.proofs.Common.{◌≡◌, ℕ, ◌+◌, ◌<◌, ◌≤◌, List, [], ◌∷◌, ◌++◌, map, refl, sym, ◌∙◌, ap, subst, arith}
-use Rattle.std.proofs.Common.{append-nil, drop, length, zero, suc, ◌⊎◌, inl, inr, Option, None, Some, true}
+use Rattle.std.proofs.Common.{append-nil, drop, length, zero, suc, ◌⊎◌, inl, inr, Option, None, Some, true, false}
 use Rattle.trace_values.specs.declared.cell.Cell.{Cell}
 use Rattle.trace_values.specs.declared.fault.Reason.{Reason}
 use Rattle.trace_values.specs.Placed.{Place, Placed}
@@ -12,7 +12,7 @@ use Rattle.source_events.specs.declared.event.What.{What}
 use Rattle.source_events.specs.declared.packet.Packet.{Packet}
 use Rattle.source_events.specs.declared.plan.Plan.{Plan}
 use Rattle.source_events.specs.declared.plan.SourceKind.{SourceKind}
-use Rattle.source_events.specs.Merge.{told, cut, AllIn, Below, IsAtMost, start_of}
+use Rattle.source_events.specs.Merge.{told, cut, grown, of_sources, AllIn, Below, IsAtMost, start_of}
 use Rattle.source_events.specs.Plan.{is_sound, kind_of, sources_by}
 use Rattle.source_events.specs.Report.{Mapped, AreLawful, all_events, events, least_fault, lesser, lock_at, of_source}
 use Rattle.source_events.specs.Report.{port_events, runs_in, stop_in}
@@ -21,7 +21,7 @@ use Rattle.source_events.specs.Tails.{items_in}
 use Rattle.source_counts.specs.Counts.{items_of}
 use Rattle.source_events.proofs.ReportCounts.{items_captured}
 use Rattle.source_events.specs.Runs.{id_of, IsRunFrom, end_of}
-use Rattle.source_events.proofs.Family.{adds}
+use Rattle.source_events.proofs.Family.{Anywhere, adds, anywhere}
 use Rattle.source_events.proofs.Growth.{between_weaker, sound_first}
 use Rattle.source_events.proofs.Lawful.{plan_lawful}
 use Rattle.source_events.proofs.Least.{Full, Later, others_later, second_wins}
@@ -31,12 +31,12 @@ use Rattle.source_events.proofs.Placing.{RunsBetween, between_order}
 use Rattle.source_events.proofs.Running.{end_within}
 use Rattle.source_events.proofs.Settling.{all_sound, least_below}
 use Rattle.stretch_readings.specs.declared.heard.Heard.{Heard}
-use Rattle.recovery_report.specs.Report.{Part, Run, Locks, Breaks, added, added_by, events_by, lock_of, report}
+use Rattle.recovery_report.specs.Report.{Part, Run, Locks, Breaks, added, said_by, events_by, lock_of, report}
 use Rattle.recovery_report.specs.Report.{report_from}
 use Rattle.recovery_laws.specs.Strict.{IsStrictBefore, upto, first_fault}
 use Rattle.recovery_laws.proofs.Ports.{IsParted, EndsBy, parted}
 use Rattle.recovery_laws.proofs.Runs.{IsSame, all_same, runs_report}
-use Rattle.recovery_report.proofs.PartLaws.{report_append}
+use Rattle.recovery_report.proofs.PartLaws.{of_port, report_append}
 use Rattle.recovery_laws.proofs.Uptos.{Found, after_none, after_some}
 
 abbrev Heards : Type 0
@@ -45,46 +45,52 @@ Heards = List (Event (Heard Packet))
 -- a lock is nothing to any source
 module _ (plan : Plan) (n : ℕ) (place : Place) where
   same_events : (o : Option SourceKind) (x : ℕ) (before : List Part) →
-      events_by plan o x (Locks n place ∷ before) ≡ events_by plan o x before
+      events_by false plan o x (Locks n place ∷ before) ≡ events_by false plan o x before
   same_events None x before = refl
   same_events (Some kind) x before = refl
 
-  same_added : (before : List Part) (run : List Cell) (o : Option ℕ) →
-      added_by plan (Locks n place ∷ before) o (Run run) ≡ added_by plan before o (Run run)
-  same_added before run None = refl
-  same_added before run (Some x) =
+  same_added : (before : List Part) (run : List Cell) (o : Option ℕ) → id_of run ≡ o →
+      added false plan (Locks n place ∷ before) (Run run) ≡ added false plan before (Run run)
+  same_added before run None e =
+      of_port false plan (Locks n place ∷ before) (Run run) e ∙ sym (of_port false plan before (Run run) e)
+  same_added before run (Some x) e =
       let k = same_events (kind_of plan x) x before in
       let m = same_events (kind_of plan x) x (before ++ Run run ∷ []) in
-      ap (λ l. told (Some x) (drop (length l)
-      (events_by plan (kind_of plan x) x ((Locks n place ∷ before) ++ Run run ∷ [])))) k
-      ∙ ap (λ l. told (Some x) (drop (length (events_by plan (kind_of plan x) x before)) l)) m
+      ap (λ o. grown (said_by false plan) (Locks n place ∷ before) (Run run) o) e
+      ∙ ap (λ l. told (Some x) (drop (length l)
+      (events_by false plan (kind_of plan x) x ((Locks n place ∷ before) ++ Run run ∷ [])))) k
+      ∙ ap (λ l. told (Some x) (drop (length (events_by false plan (kind_of plan x) x before)) l)) m
+      ∙ ap (λ o. grown (said_by false plan) before (Run run) o) (sym e)
 
   after_lock : (rs : List (List Cell)) (before : List Part) →
-      report_from plan (Locks n place ∷ before) (map Run rs) ≡ report_from plan before (map Run rs)
+      report_from false plan (Locks n place ∷ before) (map Run rs) ≡ report_from false plan before (map Run rs)
   after_lock [] before = refl
   after_lock (run ∷ rs) before =
-      ap (λ l. l ++ report_from plan (Locks n place ∷ (before ++ Run run ∷ [])) (map Run rs))
-      (same_added before run (id_of run))
-      ∙ ap (λ l. added plan before (Run run) ++ l) (after_lock rs (before ++ Run run ∷ []))
+      ap (λ l. l ++ report_from false plan (Locks n place ∷ (before ++ Run run ∷ [])) (map Run rs))
+      (same_added before run (id_of run) refl)
+      ∙ ap (λ l. added false plan before (Run run) ++ l) (after_lock rs (before ++ Run run ∷ []))
 
 module _ (plan : Plan) where
   after_locks : (items : List (PortItem × Place)) (n : ℕ) (rs : List (List Cell)) →
-      report_from plan (lock_of items n) (map Run rs) ≡ runs_report plan rs
+      report_from false plan (lock_of items n) (map Run rs) ≡ runs_report plan rs
   after_locks [] n rs = refl
   after_locks (x ∷ items) n rs = after_lock plan n x.1 rs []
 
   -- what the lock says
   locks_said : (items : List (PortItem × Place)) (n : ℕ) →
-      (upto (report_from plan [] (lock_of items n)) ≡ told None (lock_at n items))
-      × (first_fault (report_from plan [] (lock_of items n)) ≡ None)
+      (upto (report_from false plan [] (lock_of items n)) ≡ told None (lock_at n items))
+      × (first_fault (report_from false plan [] (lock_of items n)) ≡ None)
   locks_said [] n = (refl, refl)
   locks_said (x ∷ items) n = (refl, refl)
 
   -- what the fault says
   break_said : (ahead : List Part) (f : Place × Reason) (more : List Part) →
-      (upto (report_from plan ahead (Breaks f.1 f.0 ∷ more)) ≡ [])
-      × (first_fault (report_from plan ahead (Breaks f.1 f.0 ∷ more)) ≡ Some (f.0, (f.1, None)))
-  break_said ahead f more = (refl, refl)
+      (upto (report_from false plan ahead (Breaks f.1 f.0 ∷ more)) ≡ [])
+      × (first_fault (report_from false plan ahead (Breaks f.1 f.0 ∷ more)) ≡ Some (f.0, (f.1, None)))
+  break_said ahead f more =
+      let said = of_port false plan ahead (Breaks f.1 f.0) refl in
+      let rest = report_from false plan (ahead ++ Breaks f.1 f.0 ∷ []) more in
+      (ap (λ l. upto (l ++ rest)) said, ap (λ l. first_fault (l ++ rest)) said)
 
 at_zero : (p : Place) → IsAtMost (start_of 0) p
 at_zero p = by p.at p.half where
@@ -130,16 +136,16 @@ module _ (plan : Plan) (sound : is_sound plan ≡ true) (lo hi : ℕ) (u : List 
   start = first_end 0 (port_events {V = Packet} plan.frames u)
 
   abbrev locked : Heards
-  locked = report_from plan [] (lock_of p.items p.count)
+  locked = report_from false plan [] (lock_of p.items p.count)
 
   abbrev broken : Heards
-  broken = report_from plan (lock_of p.items p.count ++ map Run rs) p.rest
+  broken = report_from false plan (lock_of p.items p.count ++ map Run rs) p.rest
 
   report_is : report plan u ≡ locked ++ (runs_report plan rs ++ broken)
   report_is =
-      ap (report_from plan []) p.parts
-      ∙ report_append plan (lock_of p.items p.count) (map Run rs ++ p.rest) []
-      ∙ ap (λ l. locked ++ l) (report_append plan (map Run rs) p.rest (lock_of p.items p.count)
+      ap (report_from false plan []) p.parts
+      ∙ report_append false plan (lock_of p.items p.count) (map Run rs ++ p.rest) []
+      ∙ ap (λ l. locked ++ l) (report_append false plan (map Run rs) p.rest (lock_of p.items p.count)
       ∙ ap (λ l. l ++ broken) (after_locks plan p.items p.count rs))
 
   said : (upto locked ≡ front) × (first_fault locked ≡ None)
@@ -162,8 +168,8 @@ module _ (plan : Plan) (sound : is_sound plan ≡ true) (lo hi : ℕ) (u : List 
       (between_order rs start p.end p.between)
 
   all_below : Below p.end (all_events ss rs)
-  all_below = below IsRunFrom end_of end_within id_of (events ss) (adds ss law) rs [] 0 p.end
-      (from_start rs start p.end p.between)
+  all_below = below Anywhere IsRunFrom end_of end_within id_of (of_sources (events ss)) (adds ss law) anywhere rs [] 0
+      p.end tt (from_start rs start p.end p.between)
 
   start_end : start ≤ p.end
   start_end = between_le rs start p.end p.between
@@ -192,7 +198,7 @@ module _ (plan : Plan) (sound : is_sound plan ≡ true) (lo hi : ℕ) (u : List 
             upto (runs_report plan rs) ≡ all_events ss rs →
             stop_in ss (port_reading plan.frames u) ≡ lesser (of_source None o) None → IsStrictBefore plan u
         by None k b events stop =
-            let nothing : broken ≡ [] = ap (report_from plan (lock_of p.items p.count ++ map Run rs)) k in
+            let nothing : broken ≡ [] = ap (report_from false plan (lock_of p.items p.count ++ map Run rs)) k in
             record {
               events =
                   ap (λ z. cut z (front ++ all_events ss rs)) stop ∙ ap (λ l. front ++ l) (sym events)
@@ -202,7 +208,7 @@ module _ (plan : Plan) (sound : is_sound plan ≡ true) (lo hi : ℕ) (u : List 
             }
         by (Some g) k b events stop =
             let full : Full = (g.0, (g.1, None)) in
-            let rest = ap (report_from plan (lock_of p.items p.count ++ map Run rs)) k.1 in
+            let rest = ap (report_from false plan (lock_of p.items p.count ++ map Run rs)) k.1 in
             let q = break_said plan (lock_of p.items p.count ++ map Run rs) g k.0 in
             let low : Below g.0.at (front ++ all_events ss rs) =
             below_append g.0.at front (all_events ss rs)

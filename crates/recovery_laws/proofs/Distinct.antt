@@ -13,7 +13,7 @@ use Rattle.source_events.specs.declared.packet.Packet.{Packet}
 use Rattle.source_events.specs.declared.plan.Plan.{Plan}
 use Rattle.source_events.specs.declared.plan.SourceKind.{SourceKind}
 use Rattle.source_events.specs.declared.plan.SourceKind.TheVariants.{Itm, Stp}
-use Rattle.source_events.specs.Merge.{grown, told}
+use Rattle.source_events.specs.Merge.{grown, of_sources, told}
 use Rattle.source_events.specs.Plan.{are_sound, is_sound, mapped_ids, sources_by, stream_of}
 use Rattle.source_events.specs.Report.{AreLawful, IsLawful, Mapped, events, lifted, raw_events, raws}
 use Rattle.source_events.specs.Runs.{id_of, list_of, placed_run}
@@ -49,21 +49,21 @@ module _ {V : Type 0} where
 
   -- what a run of a mapped source adds
   pub grown_own : (a : List (Mapped V)) (s : Mapped V) (b : List (Mapped V)) (runs : List (List Cell)) (run : List Cell) (given : List (Said V × Place)) → HasNot s.id a → id_of run ≡ Some s.id →
-      (s.stream (list_of s.id runs ++ placed_run run)).given ≡ (s.stream (list_of s.id runs)).given ++ given → grown (events (a ++ (s ∷ b))) runs run (id_of run) ≡ told (Some s.id) (lifted given)
+      (s.stream (list_of s.id runs ++ placed_run run)).given ≡ (s.stream (list_of s.id runs)).given ++ given → grown (of_sources (events (a ++ (s ∷ b)))) runs run (id_of run) ≡ told (Some s.id) (lifted given)
   grown_own a s b runs run given h e g =
-      ap (λ (o : Option ℕ). grown (events (a ++ (s ∷ b))) runs run o) e
-      ∙ grown_by (events (a ++ (s ∷ b))) runs run s.id (lifted given)
+      ap (λ (o : Option ℕ). grown (of_sources (events (a ++ (s ∷ b)))) runs run o) e
+      ∙ grown_by (of_sources (events (a ++ (s ∷ b)))) runs run (Some s.id) (lifted given)
       (events_at a s b s.id (runs ++ run ∷ []) h ∙ own_push s b s.id runs run given refl (ap (is_source s.id) e ∙ test_same s.id s.id refl) g ∙ ap (λ l. l ++ lifted given) (sym (events_at a s b s.id runs h)))
 
   -- and what one of another source does
-  pub grown_raw : (ss : List (Mapped V)) (runs : List (List Cell)) (run : List Cell) (x : ℕ) → HasNot x ss → id_of run ≡ Some x → grown (events ss) runs run (id_of run) ≡ told (Some x) (raw_events x run)
+  pub grown_raw : (ss : List (Mapped V)) (runs : List (List Cell)) (run : List Cell) (x : ℕ) → HasNot x ss → id_of run ≡ Some x → grown (of_sources (events ss)) runs run (id_of run) ≡ told (Some x) (raw_events x run)
   grown_raw ss runs run x h e =
-      ap (λ (o : Option ℕ). grown (events ss) runs run o) e
-      ∙ grown_by (events ss) runs run x (raw_events x run)
+      ap (λ (o : Option ℕ). grown (of_sources (events ss)) runs run o) e
+      ∙ grown_by (of_sources (events ss)) runs run (Some x) (raw_events x run)
       (events_raw ss x (runs ++ run ∷ []) h ∙ raws_own x runs run (ap (is_source x) e ∙ test_same x x refl) ∙ ap (λ l. l ++ raw_events x run) (sym (events_raw ss x runs h)))
 
-  pub grown_none : (ss : List (Mapped V)) (runs : List (List Cell)) (run : List Cell) → id_of run ≡ None → grown (events ss) runs run (id_of run) ≡ []
-  grown_none ss runs run e = ap (λ (o : Option ℕ). grown (events ss) runs run o) e
+  pub grown_none : (ss : List (Mapped V)) (runs : List (List Cell)) (run : List Cell) → id_of run ≡ None → grown (of_sources (events ss)) runs run (id_of run) ≡ []
+  grown_none ss runs run e = ap (λ (o : Option ℕ). grown (of_sources (events ss)) runs run o) e
 
   -- a run of another source, or of none, changes no source's list
   pub sound_other : (ss : List (Mapped V)) (runs : List (List Cell)) (run : List Cell) (x : ℕ) → HasNot x ss → id_of run ≡ Some x → AreSound ss runs → AreSound ss (runs ++ run ∷ [])

@@ -24,8 +24,8 @@ use Rattle.stretch_readings.specs.Guessing.{is_sure, near_of, sure_of}
 use Rattle.stretch_readings.specs.Stretches.{from_fault}
 use Rattle.recovering_machines.specs.Hearing.{is_guess}
 use Rattle.recovery_report.specs.Port.{recovered}
-use Rattle.recovery_report.specs.Report.{Part, Run, Locks, Breaks, added, added_by, added_by_with, added_with, parts_in}
-use Rattle.recovery_report.specs.Report.{report, report_from, report_from_with, report_with, said_in, stretches_of}
+use Rattle.recovery_report.specs.Report.{Part, Run, Locks, Breaks, added, parts_in}
+use Rattle.recovery_report.specs.Report.{report, report_from, report_with, said_in, stretches_of}
 use Rattle.recovery_report.specs.Report.{sure_events}
 use Rattle.recovery_report.specs.Placing.{PartLies, part_end}
 use Rattle.recovery_report.proofs.Nearing.{AllBelow, first_below, near, reads}
@@ -84,7 +84,7 @@ module _ (plan : Plan) where
     next = ms ++ Run run ∷ []
 
     mapped : (x : ℕ) (kind : SourceKind) → kind_of plan x ≡ Some kind → id_of run ≡ Some x →
-        sure_events (added_with true plan ms (Run run)) ≡ added plan ms (Run run)
+        sure_events (added true plan ms (Run run)) ≡ added false plan ms (Run run)
     mapped x kind k i =
         let grew = near plan n ms all x kind (Run run) l in
         let sure : said_in false plan kind x next ≡ said_in false plan kind x ms ++ sure_of grew.extra =
@@ -92,44 +92,48 @@ module _ (plan : Plan) where
         ∙ filter-append (λ (s : Said (Heard Packet) × Place). is_sure s.0)
         (near_of (reads plan kind) from_fault (stretches_of plan kind x ms)) grew.extra
         ∙ ap (λ h. h ++ sure_of grew.extra) (sure_said (reads plan kind) from_fault (stretches_of plan kind x ms)) in
-        ap sure_events ((parts.own_with true plan kind x ms run k i).more grew.extra grew.is)
+        ap sure_events ((parts.own true plan kind x ms run k i).more grew.extra grew.is)
         ∙ told_sure (Some x) (lifted grew.extra) ∙ ap (told (Some x)) (lifted_sure grew.extra)
-        ∙ sym ((parts.own plan kind x ms run k i).more (sure_of grew.extra) sure)
+        ∙ sym ((parts.own false plan kind x ms run k i).more (sure_of grew.extra) sure)
 
     unmapped : (x : ℕ) → kind_of plan x ≡ None → id_of run ≡ Some x →
-        sure_events (added_with true plan ms (Run run)) ≡ added plan ms (Run run)
+        sure_events (added true plan ms (Run run)) ≡ added false plan ms (Run run)
     unmapped x k i =
-        ap sure_events (parts.raw_with true plan x ms run k i) ∙ told_sure (Some x) (raw_events x run)
-        ∙ ap (told (Some x)) (raw_sure x run) ∙ sym (parts.raw plan x ms run k i)
+        ap sure_events (parts.raw true plan x ms run k i) ∙ told_sure (Some x) (raw_events x run)
+        ∙ ap (told (Some x)) (raw_sure x run) ∙ sym (parts.raw false plan x ms run k i)
 
-    of_run : (o : Option ℕ) → id_of run ≡ o → sure_events (added_with true plan ms (Run run)) ≡ added plan ms (Run run)
-    of_run None e = ap (λ o. sure_events (added_by_with true plan ms o (Run run))) e
-        ∙ ap (λ o. added_by plan ms o (Run run)) (sym e)
+    of_run : (o : Option ℕ) → id_of run ≡ o → sure_events (added true plan ms (Run run)) ≡ added false plan ms (Run run)
+    of_run None e =
+        ap sure_events (parts.of_port true plan ms (Run run) e) ∙ sym (parts.of_port false plan ms (Run run) e)
     of_run (Some x) e = by (kind_of plan x) refl where
       by : (o : Option SourceKind) → kind_of plan x ≡ o →
-          sure_events (added_with true plan ms (Run run)) ≡ added plan ms (Run run)
+          sure_events (added true plan ms (Run run)) ≡ added false plan ms (Run run)
       by None k = unmapped x k e
       by (Some kind) k = mapped x kind k e
 
   sure_added : (n : ℕ) (ms : List Part) → AllBelow plan n ms → (m : Part) → PartLies n m →
-      sure_events (added_with true plan ms m) ≡ added plan ms m
+      sure_events (added true plan ms m) ≡ added false plan ms m
   sure_added n ms all (Run run) l = of_run n ms all run l (id_of run) refl
-  sure_added n ms all (Locks skipped place) l = refl
-  sure_added n ms all (Breaks reason place) l = refl
+  sure_added n ms all (Locks skipped place) l =
+      ap sure_events (parts.of_port true plan ms (Locks skipped place) refl)
+      ∙ sym (parts.of_port false plan ms (Locks skipped place) refl)
+  sure_added n ms all (Breaks reason place) l =
+      ap sure_events (parts.of_port true plan ms (Breaks reason place) refl)
+      ∙ sym (parts.of_port false plan ms (Breaks reason place) refl)
 
   pub sure_report : (ms ahead : List Part) (n : ℕ) → InOrder PartLies part_end n ms → AllBelow plan n ahead →
-      sure_events (report_from_with true plan ahead ms) ≡ report_from plan ahead ms
+      sure_events (report_from true plan ahead ms) ≡ report_from false plan ahead ms
   sure_report [] ahead n r all = refl
   sure_report (m ∷ ms) ahead n r all =
       let next = ahead ++ m ∷ [] in
-      let rest = report_from_with true plan next ms in
-      filter-append (λ (e : Event (Heard Packet)). not (is_guess e.what)) (added_with true plan ahead m) rest
+      let rest = report_from true plan next ms in
+      filter-append (λ (e : Event (Heard Packet)). not (is_guess e.what)) (added true plan ahead m) rest
       ∙ ap (λ g. g ++ sure_events rest) (sure_added n ahead all m r.0)
-      ∙ ap (λ g. added plan ahead m ++ g)
+      ∙ ap (λ g. added false plan ahead m ++ g)
       (sure_report ms next (part_end m) r.1 (λ x kind. (near plan n ahead all x kind m r.0).below))
 
   pub sure_first : (ms : List Part) (n : ℕ) → InOrder PartLies part_end n ms →
-      sure_events (report_from_with true plan [] ms) ≡ report_from plan [] ms
+      sure_events (report_from true plan [] ms) ≡ report_from false plan [] ms
   sure_first ms n r = sure_report ms [] n r (first_below plan n)
 
 -- the report has no guess

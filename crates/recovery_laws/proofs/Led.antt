@@ -24,7 +24,7 @@ use Rattle.stretch_readings.specs.Guessing.{has_fault, near_of, told_near}
 use Rattle.stretch_readings.specs.Stretches.{Stretch, Stretches, broken, from_fault, heard, told}
 use Rattle.recovering_machines.specs.Hearing.{is_guess}
 use Rattle.recovery_report.specs.Counts.{is_fault}
-use Rattle.recovery_report.specs.Report.{Part, Run, Locks, Breaks, added_by_with, added_with, report_from_with, said_in}
+use Rattle.recovery_report.specs.Report.{Part, Run, Locks, Breaks, added, report_from, said_in}
 use Rattle.recovery_report.specs.Report.{stretches_of}
 use Rattle.recovery_report.proofs.PartLaws as parts
 use Rattle.recovery_report.specs.Placing.{PartLies, part_end}
@@ -188,18 +188,18 @@ module _ (plan : Plan) where
 
   -- what a part adds, where this is known of the events before it
   module _ (n : ℕ) (ms : List Part) (all : AllBelow plan n ms) (b : Bool) (known : AreTold b ms) where
-    abbrev added : Part → Events
-    added m = added_with true plan ms m
+    abbrev given : Part → Events
+    given m = added true plan ms m
 
     abbrev Knows : Part → Type 0
-    Knows m = AreTold (b || any_fault (added m)) (ms ++ m ∷ [])
+    Knows m = AreTold (b || any_fault (given m)) (ms ++ m ∷ [])
 
     -- a source that says no more
     same : (m : Part) (x : ℕ) (kind : SourceKind) → kind_of plan x ≡ Some kind →
         stretches_of plan kind x (ms ++ m ∷ []) ≡ stretches_of plan kind x ms →
-        list_any fault_said (said_in true plan kind x (ms ++ m ∷ [])) ≡ true → (b || any_fault (added m)) ≡ true
+        list_any fault_said (said_in true plan kind x (ms ++ m ∷ [])) ≡ true → (b || any_fault (given m)) ≡ true
     same m x kind k e q =
-        or_left b (any_fault (added m)) (known x kind k
+        or_left b (any_fault (given m)) (known x kind k
         (ap (λ r. list_any fault_said (near_of (reads plan kind) from_fault r)) (sym e) ∙ q))
 
     module _ (run : List Cell) (l : IsRunFrom n run) (x : ℕ) (kind : SourceKind) (k : kind_of plan x ≡ Some kind)
@@ -213,10 +213,10 @@ module _ (plan : Plan) where
       grew : said_in true plan kind x (ms ++ Run run ∷ []) ≡ old ++ more
       grew = (near plan n ms all x kind (Run run) l).is
 
-      adds : added (Run run) ≡ told_by (Some x) (lifted more)
-      adds = (parts.own_with true plan kind x ms run k i).more more grew
+      adds : given (Run run) ≡ told_by (Some x) (lifted more)
+      adds = (parts.own true plan kind x ms run k i).more more grew
 
-      own_led : EventsLed b (added (Run run))
+      own_led : EventsLed b (given (Run run))
       own_led =
           subst (EventsLed b) (sym adds)
           (told_led (Some x) b more (led_by guess_said fault_said (list_any fault_said old) b more (known x kind k)
@@ -224,13 +224,13 @@ module _ (plan : Plan) where
           (source_led (reads plan kind) (stretches_of plan kind x (ms ++ Run run ∷ [])))))))
 
       own_knows : list_any fault_said (said_in true plan kind x (ms ++ Run run ∷ [])) ≡ true →
-          (b || any_fault (added (Run run))) ≡ true
+          (b || any_fault (given (Run run))) ≡ true
       own_knows q =
           by (or_cases (list_any fault_said old) (list_any fault_said more)
           (sym (list_any-append fault_said old more) ∙ ap (list_any fault_said) (sym grew) ∙ q)) where
             by : (list_any fault_said old ≡ true) ⊎ (list_any fault_said more ≡ true) →
-                (b || any_fault (added (Run run))) ≡ true
-            by (inl e) = or_left b (any_fault (added (Run run))) (known x kind k e)
+                (b || any_fault (given (Run run))) ≡ true
+            by (inl e) = or_left b (any_fault (given (Run run))) (known x kind k e)
             by (inr e) =
                 ap (λ c. b || c) (ap any_fault adds ∙ told_faults (Some x) more ∙ e) ∙ or-true b
 
@@ -241,32 +241,37 @@ module _ (plan : Plan) where
     ]
     knows (Locks skipped place) l x kind k q =
         same (Locks skipped place) x kind k (parts.lock plan kind x ms skipped place) q
-    knows (Breaks reason place) l x kind k q = or-true b
+    knows (Breaks reason place) l x kind k q =
+        ap (λ es. b || any_fault es) (parts.of_port true plan ms (Breaks reason place) refl) ∙ or-true b
 
-    is_led : (m : Part) → PartLies n m → EventsLed b (added m)
+    is_led : (m : Part) → PartLies n m → EventsLed b (given m)
     is_led (Run run) l = of_run (id_of run) refl where
-      of_run : (o : Option ℕ) → id_of run ≡ o → EventsLed b (added (Run run))
-      of_run None e = subst (λ o. EventsLed b (added_by_with true plan ms o (Run run))) (sym e) tt
+      of_run : (o : Option ℕ) → id_of run ≡ o → EventsLed b (given (Run run))
+      of_run None e = subst (EventsLed b) (sym (parts.of_port true plan ms (Run run) e)) tt
       of_run (Some x) e = by (kind_of plan x) refl where
-        by : (o : Option SourceKind) → kind_of plan x ≡ o → EventsLed b (added (Run run))
-        by None k = subst (EventsLed b) (sym (parts.raw_with true plan x ms run k e)) (raw_led x b run)
+        by : (o : Option SourceKind) → kind_of plan x ≡ o → EventsLed b (given (Run run))
+        by None k = subst (EventsLed b) (sym (parts.raw true plan x ms run k e)) (raw_led x b run)
         by (Some kind) k = own_led run l x kind k e
-    is_led (Locks skipped place) l = ((λ q. (let z : false ≡ true = q in cc)), tt)
-    is_led (Breaks reason place) l = ((λ q. (let z : false ≡ true = q in cc)), tt)
+    is_led (Locks skipped place) l =
+        subst (EventsLed b) (sym (parts.of_port true plan ms (Locks skipped place) refl))
+        ((λ q. (let z : false ≡ true = q in cc)), tt)
+    is_led (Breaks reason place) l =
+        subst (EventsLed b) (sym (parts.of_port true plan ms (Breaks reason place) refl))
+        ((λ q. (let z : false ≡ true = q in cc)), tt)
 
   report_led : (ms ahead : List Part) (n : ℕ) (b : Bool) → InOrder PartLies part_end n ms → AllBelow plan n ahead →
-      AreTold b ahead → EventsLed b (report_from_with true plan ahead ms)
+      AreTold b ahead → EventsLed b (report_from true plan ahead ms)
   report_led [] ahead n b r all known = tt
   report_led (m ∷ ms) ahead n b r all known =
-      led_join (λ e. is_guess e.what) (λ e. is_fault e.what) b (added_with true plan ahead m)
-      (report_from_with true plan (ahead ++ m ∷ []) ms) (is_led n ahead all b known m r.0)
-      (report_led ms (ahead ++ m ∷ []) (part_end m) (b || any_fault (added_with true plan ahead m)) r.1
+      led_join (λ e. is_guess e.what) (λ e. is_fault e.what) b (added true plan ahead m)
+      (report_from true plan (ahead ++ m ∷ []) ms) (is_led n ahead all b known m r.0)
+      (report_led ms (ahead ++ m ∷ []) (part_end m) (b || any_fault (added true plan ahead m)) r.1
       (λ x kind. (near plan n ahead all x kind m r.0).below) (knows n ahead all b known m r.0))
 
   -- before the first fault there is no guess
   pub no_guess_first : (ms : List Part) (n : ℕ) → InOrder PartLies part_end n ms →
-      list_any (λ e. is_guess e.what) (before_first (λ e. is_fault e.what) (report_from_with true plan [] ms))
+      list_any (λ e. is_guess e.what) (before_first (λ e. is_fault e.what) (report_from true plan [] ms))
       ≡ false
   no_guess_first ms n r =
-      none_first (λ e. is_guess e.what) (λ e. is_fault e.what) (report_from_with true plan [] ms)
+      none_first (λ e. is_guess e.what) (λ e. is_fault e.what) (report_from true plan [] ms)
       (report_led ms [] n false r (first_below plan n) nothing_told)

@@ -9,6 +9,5 @@ pub mod Captures
 pub mod Ends
 pub mod Adding
 pub mod Ordering
-pub mod Only
 pub mod Guessed
 pub mod Led

@@ -1,6 +1,6 @@
 -- The report over runs is the strict one up to its first fault.
 use Rattle.std.proofs.Common.{◌≡◌, ℕ, ◌+◌, ◌≤◌, List, [], ◌∷◌, ◌++◌, map, refl, sym, ◌∙◌, ap, subst, arith}
-use Rattle.std.proofs.Common.{append_assoc, append-nil, Option, None, Some, true}
+use Rattle.std.proofs.Common.{append_assoc, append-nil, Option, None, Some, true, false}
 use Rattle.std.proofs.lemmas.List.{map-append}
 use Rattle.trace_values.specs.declared.cell.Cell.{Cell}
 use Rattle.trace_values.specs.declared.fault.Reason.{Reason}
@@ -11,13 +11,13 @@ use Rattle.source_events.specs.declared.event.Event.{Event}
 use Rattle.source_events.specs.declared.packet.Packet.{Packet}
 use Rattle.source_events.specs.declared.plan.Plan.{Plan}
 use Rattle.source_events.specs.declared.plan.SourceKind.{SourceKind}
-use Rattle.source_events.specs.Merge.{told, cut, grown}
+use Rattle.source_events.specs.Merge.{told, cut, grown, of_sources}
 use Rattle.source_events.specs.Plan.{is_sound, kind_of, sources_by}
 use Rattle.source_events.specs.Plan as strict
 use Rattle.source_events.specs.Report.{Mapped, AreLawful, IsLawful, lifted, raw_events, events, least_fault, all_events}
 use Rattle.source_events.specs.Report.{reported}
 use Rattle.source_events.specs.Runs.{id_of, list_of, placed_run, IsRunFrom, RisesFrom, end_of}
-use Rattle.source_events.proofs.Family.{adds, list_own, run_fault, run_more, within_run}
+use Rattle.source_events.proofs.Family.{Anywhere, adds, anywhere, list_own, run_fault, run_more, within_run}
 use Rattle.source_events.proofs.Growth.{sound_first}
 use Rattle.source_events.proofs.Lawful.{plan_lawful}
 use Rattle.source_events.proofs.Least.{AreSound, least_at, least_none}
@@ -33,7 +33,7 @@ use Rattle.stretch_readings.specs.declared.heard.Heard.{Heard}
 use Rattle.stretch_readings.specs.declared.heard.Heard.TheVariants.{Broken}
 use Rattle.stretch_readings.specs.Stretches.{heard, from_fault}
 use Rattle.recovering_machines.proofs.Runs.{lifted_append}
-use Rattle.recovery_report.specs.Report.{Run, added, added_by, report_from, stream_of}
+use Rattle.recovery_report.specs.Report.{Run, added, report_from, stream_of}
 use Rattle.recovery_report.proofs.PartLaws as parts
 use Rattle.recovery_laws.specs.Strict.{upto, first_fault}
 use Rattle.recovery_laws.proofs.Early.{early, cut_none, run_rises}
@@ -50,7 +50,7 @@ rises_in n (c ∷ run) r = r
 
 -- the recovering report of runs alone
 abbrev pub runs_report : Plan → List (List Cell) → Heards
-runs_report plan rs = report_from plan [] (map Run rs)
+runs_report plan rs = report_from false plan [] (map Run rs)
 
 -- It is the strict one up to its first fault.
 pub record IsSame (plan : Plan) (rs : List (List Cell)) : Type 0 where
@@ -61,9 +61,9 @@ pub record IsSame (plan : Plan) (rs : List (List Cell)) : Type 0 where
 record IsOne (plan : Plan) (rs : List (List Cell)) (run : List Cell) : Type 0 where
   given : List (Event Packet)
   fault : Found
-  events_are : upto (added plan (map Run rs) (Run run)) ≡ given
-  fault_is : first_fault (added plan (map Run rs) (Run run)) ≡ fault
-  grows : grown (events (sources_by plan)) rs run (id_of run) ≡ given
+  events_are : upto (added false plan (map Run rs) (Run run)) ≡ given
+  fault_is : first_fault (added false plan (map Run rs) (Run run)) ≡ fault
+  grows : grown (of_sources (events (sources_by plan))) rs run (id_of run) ≡ given
   least : least_fault (sources_by plan) (rs ++ run ∷ []) ≡ fault
   whole : cut fault (all_events (sources_by plan) rs ++ given) ≡ all_events (sources_by plan) rs ++ given
 
@@ -75,8 +75,9 @@ module _ (plan : Plan) (sound : is_sound plan ≡ true) where
   lawful = plan_lawful plan
 
   module _ (rs : List (List Cell)) (run : List Cell) where
-    push : runs_report plan (rs ++ run ∷ []) ≡ runs_report plan rs ++ added plan (map Run rs) (Run run)
-    push = ap (report_from plan []) (map-append Run rs (run ∷ [])) ∙ parts.growing plan (map Run rs) (Run run)
+    push : runs_report plan (rs ++ run ∷ []) ≡ runs_report plan rs ++ added false plan (map Run rs) (Run run)
+    push =
+        ap (report_from false plan []) (map-append Run rs (run ∷ [])) ∙ parts.growing false plan (map Run rs) (Run run)
 
     module _ (n : ℕ) (b : RunsBetween 0 n rs) (r : IsRunFrom n run) (snd : AreSound ss rs) where
       -- a run of no source
@@ -84,8 +85,8 @@ module _ (plan : Plan) (sound : is_sound plan ≡ true) where
       of_none e = record {
         given = [];
         fault = None;
-        events_are = ap (λ o. upto (added_by plan (map Run rs) o (Run run))) e;
-        fault_is = ap (λ o. first_fault (added_by plan (map Run rs) o (Run run))) e;
+        events_are = ap upto (parts.of_port false plan (map Run rs) (Run run) e);
+        fault_is = ap first_fault (parts.of_port false plan (map Run rs) (Run run) e);
         grows = grown_none ss rs run e;
         least = least_none ss (rs ++ run ∷ []) (sound_none ss rs run e snd);
         whole = refl;
@@ -96,7 +97,7 @@ module _ (plan : Plan) (sound : is_sound plan ≡ true) where
         of_raw : kind_of plan x ≡ None → IsOne plan rs run
         of_raw k =
             let h = missing plan x k in
-            let added_is = parts.raw plan x (map Run rs) run k e in
+            let added_is = parts.raw false plan x (map Run rs) run k e in
             let told_is = told_as (Some x) (raw_events x run) (raw_events x run) (raw_as x run) in
             record {
               given = told (Some x) (raw_events x run);
@@ -155,8 +156,8 @@ module _ (plan : Plan) (sound : is_sound plan ≡ true) where
               ≡ (stream_of plan kind x (map Run rs)).given ++ said
 
           added_is : (said : List (Said (Heard Packet) × Place)) → Said_more said →
-              added plan (map Run rs) (Run run) ≡ told (Some x) (lifted said)
-          added_is said k = (parts.own plan kind x (map Run rs) run named e).more said
+              added false plan (map Run rs) (Run run) ≡ told (Some x) (lifted said)
+          added_is said k = (parts.own false plan kind x (map Run rs) run named e).more said
               (ap (λ l. (stream_of plan kind x l).given) (sym (map-append Run rs (run ∷ []))) ∙ k)
 
           abbrev Hear : List (Said Packet × Place) → List (Said (Heard Packet) × Place)
@@ -168,9 +169,9 @@ module _ (plan : Plan) (sound : is_sound plan ≡ true) where
 
           strict_grows : (more : List (Said Packet × Place)) →
               (strict.stream_of plan kind new).given ≡ (strict.stream_of plan kind old).given ++ more →
-              grown (events ss) rs run (id_of run) ≡ told (Some x) (lifted more)
+              grown (of_sources (events ss)) rs run (id_of run) ≡ told (Some x) (lifted more)
           strict_grows more k =
-              ap (λ l. grown (events l) rs run (id_of run)) among.parts
+              ap (λ l. grown (of_sources (events l)) rs run (id_of run)) among.parts
               ∙ grown_own among.front s among.back rs run more ahead e
               (ap (λ l. (strict.stream_of plan kind l).given) (sym longer) ∙ k)
 
@@ -245,7 +246,8 @@ module _ (plan : Plan) (sound : is_sound plan ≡ true) where
                     cut_append full (all_events ss rs) (told (Some x) (lifted i.more))
                     ∙ ap (λ l. l ++ cut (Some full) (told (Some x) (lifted i.more)))
                     (cut_below full (all_events ss rs) (below_weaker n f.0.at (all_events ss rs) from
-                    (below IsRunFrom end_of end_within id_of (events ss) (adds ss lawful) rs [] 0 n b)))
+                    (below Anywhere IsRunFrom end_of end_within id_of (of_sources (events ss)) (adds ss lawful) anywhere
+                    rs [] 0 n tt b)))
                     ∙ ap (λ l. all_events ss rs ++ l) (cut_none full (Some x) i.more i.before);
               }
 
@@ -272,20 +274,21 @@ module _ (plan : Plan) (sound : is_sound plan ≡ true) where
     step n b r k = by (least_fault ss rs) refl where
       by : (o : Found) → least_fault ss rs ≡ o → IsSame plan (rs ++ run ∷ [])
       by (Some f) e =
-          let a = after_some (runs_report plan rs) (added plan (map Run rs) (Run run)) f (sym k.fault ∙ e) in
+          let a = after_some (runs_report plan rs) (added false plan (map Run rs) (Run run)) f (sym k.fault ∙ e) in
           record {
             events = report_stays rs (run ∷ []) n b (r, tt) ss lawful f e ∙ k.events ∙ sym a.0 ∙ ap upto (sym push);
             fault = least_stays rs (run ∷ []) n b (r, tt) ss lawful f e ∙ sym a.1 ∙ ap first_fault (sym push);
           }
       by None e =
           let o = one n b r (all_sound rs (run ∷ []) n b (r, tt) ss e) in
-          let a = after_none (runs_report plan rs) (added plan (map Run rs) (Run run)) (sym k.fault ∙ e) in
+          let a = after_none (runs_report plan rs) (added false plan (map Run rs) (Run run)) (sym k.fault ∙ e) in
           let whole : all_events ss rs ≡ reported ss rs = ap (λ p. cut p (all_events ss rs)) (sym e) in
           record {
             events =
                 ap (λ p. cut p (all_events ss (rs ++ run ∷ []))) o.least
-                ∙ ap (cut o.fault) (merged_append id_of (events ss) rs (run ∷ []) []
-                ∙ ap (λ l. all_events ss rs ++ l) (append-nil (grown (events ss) rs run (id_of run)) ∙ o.grows))
+                ∙ ap (cut o.fault) (merged_append id_of (of_sources (events ss)) rs (run ∷ []) []
+                ∙ ap (λ l. all_events ss rs ++ l)
+                (append-nil (grown (of_sources (events ss)) rs run (id_of run)) ∙ o.grows))
                 ∙ o.whole ∙ ap (λ l. l ++ o.given) (whole ∙ k.events)
                 ∙ ap (λ l. upto (runs_report plan rs) ++ l) (sym o.events_are) ∙ sym a.0 ∙ ap upto (sym push);
             fault = o.least ∙ sym o.fault_is ∙ sym a.1 ∙ ap first_fault (sym push);

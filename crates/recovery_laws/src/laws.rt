@@ -1,6 +1,6 @@
 //! Laws of recovering reports, over their definitions alone: their order, and what they are beside strict ones.
 
-ghost use Rattle.std.specs.Prelude.{◌≡◌, ◌∷◌, ◌++◌, [], ℕ, List, None, true, false};
+ghost use Rattle.std.specs.Prelude.{◌≡◌, ◌∷◌, ◌++◌, [], ℕ, List, Bool, None, true, false};
 ghost use Rattle.std.specs.List.{before_first, list_any};
 ghost use Rattle.trace_values.specs.Placed.{Placed, byte_at};
 ghost use Rattle.trace_values.specs.declared.reading_modes.FramesMode.{FramesMode};
@@ -32,11 +32,14 @@ pub fn counts_law()
         HasAsStrict mode (u ++ byte_at at byte ∷ []) }
 {}
 
-/// Of bytes at rising offsets, the recovering report is sorted by place. Its part of the port is all that the port
-/// says, its locks and faults, and its part of each source is all that this source says. No other list is so.
+/// Of bytes at rising offsets, the recovering report, with guesses or without, is sorted by place. Its part of the port
+/// is all that the port says, its locks and faults, and its part of each source is all that this source says, with its
+/// guesses or without. No other list is so.
 pub fn order_law()
-    ensures ordered { (plan : Plan) (n k : ℕ) (u : List Placed) → BytesRise n k u → IsOrdered plan u }
-    ensures only { (plan : Plan) (n k : ℕ) (u : List Placed) → BytesRise n k u → IsOnlyOrder plan u }
+    ensures ordered { (guesses : Bool) (plan : Plan) (n k : ℕ) (u : List Placed) → BytesRise n k u →
+        IsOrdered guesses plan u }
+    ensures only { (guesses : Bool) (plan : Plan) (n k : ℕ) (u : List Placed) → BytesRise n k u →
+        IsOnlyOrder guesses plan u }
 {}
 
 /// Of bytes at rising offsets, the report with guesses is, without them, the report. Before its first fault there is no

@@ -27,7 +27,7 @@ use Rattle.recovery_report.specs.Counts.{is_item, items_in}
 use Rattle.recovery_report.specs.Port.{all_of, frames_of, recovered}
 use Rattle.recovery_report.specs.Report.{events_by, parts_in, report, run_in, said_in}
 use Rattle.recovery_report.proofs.Parting.{parts_in_order}
-use Rattle.recovery_laws.proofs.Ordering.{merged}
+use Rattle.recovery_laws.proofs.Ordering.{ordered}
 use Rattle.recovery_engine.specs.Heard.{is_packet, packets_in}
 use Rattle.recovery_engine.proofs.PortCounts.{recovered_runs, runs_are}
 
@@ -104,12 +104,12 @@ module _ (x : ℕ) where
     es = report plan (placed seen)
 
     own : (o : Option SourceKind) → kind_of plan x ≡ o →
-        part (Some x) es ≡ told (Some x) (events_by plan o x (parts_in (recovered plan.frames (placed seen))))
+        part (Some x) es ≡ told (Some x) (events_by false plan o x (parts_in (recovered plan.frames (placed seen))))
     own o e =
         let parts = parts_in (recovered plan.frames (placed seen)) in
-        (merged plan parts 0
-        (parts_in_order plan.frames (placed seen) 0 (length seen) (capture_rises seen))).of_source x
-        ∙ ap (λ (p : Option SourceKind). told (Some x) (events_by plan p x parts)) e
+        (ordered false plan parts 0
+        (parts_in_order plan.frames (placed seen) 0 (length seen) (capture_rises seen))).parts (Some x)
+        ∙ ap (λ (p : Option SourceKind). told (Some x) (events_by false plan p x parts)) e
 
     pub packets_are : (kind : SourceKind) → kind_of plan x ≡ Some kind → packets_in x es ≡ items_in x es
     packets_are kind e =

@@ -1,9 +1,9 @@
 -- What a recovering source says more with units at places in order is at these places.
-use Rattle.std.proofs.Common.{◌≡◌, ℕ, ◌+◌, ◌<◌, ◌≤◌, List, [], ◌∷◌, ◌++◌, map, refl, sym, ◌∙◌, ap, subst, arith}
-use Rattle.std.proofs.Common.{inl, inr, append_assoc, append-nil, Option, None, Some, Bool, true}
+use Rattle.std.proofs.Common.{◌≡◌, ℕ, ◌+◌, ◌-◌, ◌<◌, ◌≤◌, List, [], ◌∷◌, ◌++◌, length, map, refl, sym, ◌∙◌, ap, subst}
+use Rattle.std.proofs.Common.{arith, inl, inr, append_assoc, append-nil, Option, None, Some, Bool, true, false}
 use Rattle.std.specs.Prelude.{is_none, flat_map}
 use Rattle.std.proofs.lemmas.Grind.{flat_map-append}
-use Rattle.std.proofs.lemmas.List.{map-append}
+use Rattle.std.proofs.lemmas.List.{drop_all, map-append}
 use Rattle.trace_values.specs.declared.cell.Cell.{Cell}
 use Rattle.trace_values.specs.declared.fault.Reason.{Reason}
 use Rattle.trace_values.specs.Placed.{Place, Placed}
@@ -13,74 +13,121 @@ use Rattle.source_events.specs.declared.plan.SourceKind.{SourceKind}
 use Rattle.source_events.specs.declared.plan.SourceKind.TheVariants.{Itm, Stp}
 use Rattle.source_events.specs.Merge.{AllIn, IsAtMost, start_of}
 use Rattle.source_events.proofs.Family.{Within}
-use Rattle.source_events.proofs.Merges.{at_most_self, at_most_trans, start_le}
+use Rattle.source_events.proofs.Merges.{at_most_self, at_most_trans, below_start, start_le}
+use Rattle.source_machine.specs.Units.{units_at}
 use Rattle.stretch_readings.specs.declared.heard.Heard.{Heard}
 use Rattle.stretch_readings.specs.declared.heard.Heard.TheVariants.{Broken}
-use Rattle.stretch_readings.specs.Stretches.{Fed, One, Mark, Stretch, Stretches, broken, fed, fed_from, from_fault}
-use Rattle.stretch_readings.specs.Stretches.{heard, heard_of, parted, told}
+use Rattle.stretch_readings.specs.Guessing.{at_next}
+use Rattle.stretch_readings.specs.Stretches.{Fed, One, Mark, Resumption, Stretch, Stretches, broken, fed, fed_from}
+use Rattle.stretch_readings.specs.Stretches.{from_fault, heard, heard_of, parted, renewed, resumed_by, told, with_unit}
 use Rattle.stretch_readings.specs.Words.{IsSound}
-use Rattle.stretch_readings.proofs.Feeding.{fallen, last_unit, longer, one_falls, one_goes}
+use Rattle.stretch_readings.proofs.Feeding.{last_unit}
 use Rattle.recovering_machines.specs.Run.{units_in}
+use Rattle.recovery_report.proofs.Spans.{AllTo, UnitsTo, on_to, to_join, units_join, units_later}
 
--- units at places in order, from this one on, and below an offset
-abbrev pub UnitsIn : Place → ℕ → List Placed → Type 0
-UnitsIn p n [] = Unit {0}
-UnitsIn p n (b ∷ w) = IsAtMost p b.place × (b.place.at < n) × UnitsIn b.place n w
+-- the units of a byte, and those of cells
+abbrev pub last_of : SourceKind → ℕ → Place
+last_of Itm at = start_of at
+last_of Stp at = record { at = at; half = 1 }
 
--- those of cells
-pub cells_in : (kind : SourceKind) (cells : List Cell) (n hi : ℕ) (p : Place) → Within n hi cells →
-    IsAtMost p (start_of n) → UnitsIn p hi (units_in kind cells)
-cells_in Itm [] n hi p w l = tt
-cells_in Itm (c ∷ cells) n hi p w l = (
-  at_most_trans p (start_of n) (start_of c.at) l (start_le n c.at w.0),
-  w.1,
-  cells_in Itm cells (c.at + 1) hi (start_of c.at) w.2 (start_le c.at (c.at + 1) (omega arith)),
-)
-cells_in Stp [] n hi p w l = tt
-cells_in Stp (c ∷ cells) n hi p w l = (
-  at_most_trans p (start_of n) (start_of c.at) l (start_le n c.at w.0),
-  w.1,
-  (
-    inr (refl, (let z : 0 ≤ 1 = omega arith in z)),
-    w.1,
-    cells_in Stp cells (c.at + 1) hi (record { at = c.at; half = 1 }) w.2
-        (inl (let z : c.at < c.at + 1 = omega arith in z)),
-  ),
+pub last_at : (kind : SourceKind) (at : ℕ) → (last_of kind at).at ≡ at
+last_at Itm at = refl
+last_at Stp at = refl
+
+pub units_span : (kind : SourceKind) (at byte : ℕ) → UnitsTo (start_of at) (last_of kind at) (units_at kind at byte)
+units_span Itm at byte = (at_most_self (start_of at), at_most_self (start_of at))
+units_span Stp at byte = (
+  at_most_self (start_of at),
+  (inr (refl, (let z : 0 ≤ 1 = omega arith in z)), at_most_self (last_of Stp at)),
 )
 
--- what is at one place, and then what comes after it
-all_later : {W : Type 0} (p q : Place) (n : ℕ) (xs : List (W × Place)) → IsAtMost p q → AllIn q n xs → AllIn p n xs
+pub cells_to : (kind : SourceKind) (c : Cell) (cells : List Cell) (n hi : ℕ) → Within n hi (c ∷ cells) →
+    (q : Place) × UnitsTo (start_of n) q (units_in kind (c ∷ cells)) × (q.at < hi)
+cells_to kind c [] n hi w = (
+  last_of kind c.at,
+  subst (UnitsTo (start_of n) (last_of kind c.at)) (sym (append-nil (units_at kind c.at c.byte)))
+      (units_later (start_of n) (start_of c.at) (last_of kind c.at) (units_at kind c.at c.byte)
+      (start_le n c.at w.0) (units_span kind c.at c.byte)),
+  subst (λ (k : ℕ). k < hi) (sym (last_at kind c.at)) w.1,
+)
+cells_to kind c (d ∷ cells) n hi w =
+    let rest = cells_to kind d cells (c.at + 1) hi w.2 in
+    let last = last_of kind c.at in
+    let next : last.at < c.at + 1 = (let k = last_at kind c.at in omega (arith, k)) in (
+      rest.0,
+      units_join (start_of n) last rest.0 (units_at kind c.at c.byte) (units_in kind (d ∷ cells))
+          (units_later (start_of n) (start_of c.at) last (units_at kind c.at c.byte) (start_le n c.at w.0)
+          (units_span kind c.at c.byte))
+          (units_later last (start_of (c.at + 1)) rest.0 (units_in kind (d ∷ cells))
+          (below_start last (c.at + 1) next) rest.1),
+      rest.2,
+    )
+
+-- from an earlier place on
+pub all_later : {W : Type 0} (p q : Place) (n : ℕ) (xs : List (W × Place)) → IsAtMost p q → AllIn q n xs → AllIn p n xs
 all_later p q n [] l all = tt
 all_later p q n (x ∷ xs) l all = (at_most_trans p q x.1 l all.0, all.1, all.2)
-
-all_on : {W : Type 0} (p q : Place) (n : ℕ) (xs ys : List (W × Place)) → AllOn q xs → IsAtMost p q → q.at < n →
-    AllIn q n ys → AllIn p n (xs ++ ys)
-all_on p q n [] ys a l b next = all_later p q n ys l next
-all_on p q n (x ∷ xs) ys a l b next = (
-  subst (λ (z : Place). IsAtMost p z) (sym a.0) l,
-  subst (λ (z : Place). z.at < n) (sym a.0) b,
-  all_on x.1 q n xs ys a.1 (subst (λ (z : Place). IsAtMost z q) (sym a.0) (at_most_self q)) b next,
-)
 
 on_append : {W : Type 0} (p : Place) (xs ys : List (W × Place)) → AllOn p xs → AllOn p ys → AllOn p (xs ++ ys)
 on_append p [] ys a b = b
 on_append p (x ∷ xs) ys a b = (a.0, on_append p xs ys a.1 b)
 
--- Readings that rise: what is more with a unit is at its place; what is taken again has no fault; no unit says nothing.
+-- at the place of one more unit
+broken_on : {V : Type 0} (reads : Bool → List Placed → Stream V) (way : Resumption) (p : Place)
+    (o : Option (Place × Reason)) → FaultOn p None o → AllOn p (broken reads way o)
+broken_on reads way p None f = tt
+broken_on reads way p (Some g) f = (f, tt)
+
+heard_on : {V : Type 0} (reads : Bool → List Placed → Stream V) (way : Resumption) (count : ℕ) (p : Place)
+    (xs : List (Said V × Place)) → AllOn p xs → AllOn p (map (heard reads way count) xs)
+heard_on reads way count p [] a = tt
+heard_on reads way count p ((Notice k, q) ∷ xs) a = (a.0, heard_on reads way count p xs a.1)
+heard_on reads way count p ((Kept v, q) ∷ xs) a = (a.0, heard_on reads way count p xs a.1)
+
+-- What a stretch says that goes on after the fault of a unit is at that unit's place.
+abbrev pub GoesOnAt : {V : Type 0} → (Bool → List Placed → Stream V) → Resumption → Type 0
+GoesOnAt reads way = (h : Bool) (count : ℕ) (u : List Placed) (b : Placed) →
+    AllOn b.place (told reads way (renewed reads way (record { hunts = h; count = count; units = u ++ b ∷ [] })))
+
 module _ {V : Type 0} (reads : Bool → List Placed → Stream V)
     (rises : (h : Bool) (u : List Placed) (b : Placed) → RisesOn (reads h u) (reads h (u ++ b ∷ [])) b.place)
-    (sound : IsSound reads from_fault) (quiet : (reads true []).given ≡ []) (fine : (reads true []).fault ≡ None) where
+    (begins : (h : Bool) → (reads h []).fault ≡ None) (quiet : (h : Bool) → (reads h []).given ≡ []) where
+  -- it hunts from the fault's unit on
+  pub from_fault_on : GoesOnAt reads from_fault
+  from_fault_on h count u b =
+      let first = rises true [] b in
+      let c = (reads h (u ++ b ∷ [])).held - 1 in
+      let given : (reads true (b ∷ [])).given ≡ first.more = first.given ∙ ap (λ l. l ++ first.more) (quiet true) in
+      subst (λ (w : List Placed). AllOn b.place (map (heard reads from_fault c) (reads true w).given
+      ++ broken reads from_fault (reads true w).fault)) (sym (last_unit u b))
+      (on_append b.place (map (heard reads from_fault c) (reads true (b ∷ [])).given)
+      (broken reads from_fault (reads true (b ∷ [])).fault)
+      (heard_on reads from_fault c b.place (reads true (b ∷ [])).given (subst (AllOn b.place) (sym given) first.all))
+      (broken_on reads from_fault b.place (reads true (b ∷ [])).fault
+      (subst (λ (o : Option (Place × Reason)). FaultOn b.place o (reads true (b ∷ [])).fault) (begins true)
+      first.fault)))
+
+  -- or it reads on at the next unit
+  pub at_next_on : GoesOnAt reads at_next
+  at_next_on h count u b =
+      let c = (reads h (u ++ b ∷ [])).held - 0 in
+      let nothing : map (heard reads at_next c) (reads false []).given
+      ++ broken reads at_next (reads false []).fault ≡ [] =
+      ap (λ l. map (heard reads at_next c) l ++ broken reads at_next (reads false []).fault) (quiet false)
+      ∙ ap (broken reads at_next) (begins false) in
+      subst (λ (w : List Placed). AllOn b.place (map (heard reads at_next c) (reads false w).given
+      ++ broken reads at_next (reads false w).fault))
+      (sym (drop_all (length (u ++ b ∷ []) - 0) (u ++ b ∷ []) (omega arith))) (subst (AllOn b.place) (sym nothing) tt)
+
+-- Readings that rise: what is more with a unit is at its place; what is taken again has no fault.
+module _ {V : Type 0} (reads : Bool → List Placed → Stream V)
+    (rises : (h : Bool) (u : List Placed) (b : Placed) → RisesOn (reads h u) (reads h (u ++ b ∷ [])) b.place)
+    (way : Resumption) (sound : IsSound reads way) (again : GoesOnAt reads way) where
   abbrev pub given : Stretches → List (Said (Heard V) × Place)
-  given r = (heard_of reads from_fault r).given
+  given r = (heard_of reads way r).given
 
   abbrev pub IsWhole : Stretches → Type 0
   IsWhole r = (reads r.now.hunts r.now.units).fault ≡ None
-
-  heard_on : (count : ℕ) (p : Place) (xs : List (Said V × Place)) → AllOn p xs →
-      AllOn p (map (heard reads from_fault count) xs)
-  heard_on count p [] a = tt
-  heard_on count p ((Notice k, q) ∷ xs) a = (a.0, heard_on count p xs a.1)
-  heard_on count p ((Kept v, q) ∷ xs) a = (a.0, heard_on count p xs a.1)
 
   -- with one unit more
   record IsMore (r s : Stretches) (p : Place) : Type 0 where
@@ -97,106 +144,88 @@ module _ {V : Type 0} (reads : Bool → List Placed → Stream V)
     new = reads r.now.hunts (r.now.units ++ b ∷ [])
 
     abbrev past : List (Said (Heard V) × Place)
-    past = flat_map (told reads from_fault) r.past
+    past = flat_map (told reads way) r.past
 
     abbrev hear : List (Said V × Place) → List (Said (Heard V) × Place)
-    hear l = map (heard reads from_fault r.now.count) l
+    hear l = map (heard reads way r.now.count) l
 
     on : RisesOn old new b.place
     on = rises r.now.hunts r.now.units b
 
-    was : told reads from_fault r.now ≡ hear old.given
-    was = ap (λ o. hear old.given ++ broken reads from_fault o) whole ∙ append-nil (hear old.given)
+    was : told reads way r.now ≡ hear old.given
+    was = ap (λ o. hear old.given ++ broken reads way o) whole ∙ append-nil (hear old.given)
 
-    grew : hear new.given ≡ told reads from_fault r.now ++ hear on.more
+    grew : hear new.given ≡ told reads way r.now ++ hear on.more
     grew =
-        ap hear on.given ∙ map-append (heard reads from_fault r.now.count) old.given on.more
+        ap hear on.given ∙ map-append (heard reads way r.now.count) old.given on.more
         ∙ ap (λ l. l ++ hear on.more) (sym was)
 
-    goes : new.fault ≡ None → IsMore r (longer reads r (b ∷ [])) b.place
-    goes e = record {
+    by : (o : Option (Place × Reason)) → new.fault ≡ o →
+        IsMore r (resumed_by reads way o (with_unit reads way r b)) b.place
+    by None e = record {
       more = hear on.more;
       is =
-          ap (λ o. past ++ (hear new.given ++ broken reads from_fault o)) e
+          ap (λ o. past ++ (hear new.given ++ broken reads way o)) e
           ∙ ap (λ l. past ++ l) (append-nil (hear new.given) ∙ grew)
-          ∙ sym (append_assoc past (told reads from_fault r.now) (hear on.more));
-      all = heard_on r.now.count b.place on.more on.all;
+          ∙ sym (append_assoc past (told reads way r.now) (hear on.more));
+      all = heard_on reads way r.now.count b.place on.more on.all;
       whole = e;
     }
-
-    falls : (f : Place × Reason) → new.fault ≡ Some f → IsMore r (fallen reads r (b ∷ []) (b ∷ [])) b.place
-    falls f e =
+    by (Some f) e =
         let s : Stretch = record { hunts = r.now.hunts; count = r.now.count; units = r.now.units ++ b ∷ [] } in
-        let next = fallen reads r (b ∷ []) (b ∷ []) in
+        let next = told reads way (renewed reads way s) in
         let last : List (Said (Heard V) × Place) = (Kept (Broken f.1), f.0) ∷ [] in
-        let first = rises true [] b in
-        let renew = heard reads from_fault next.now.count in
-        let again = map renew first.more in
-        let none : (reads true (b ∷ [])).fault ≡ None =
-        ap (λ w. (reads true w).fault) (sym (last_unit r.now.units b))
-        ∙ sound r.now.hunts r.now.units b whole (ap is_none e) in
-        let said : told reads from_fault s ≡ told reads from_fault r.now ++ (hear on.more ++ last) =
-        ap (λ o. hear new.given ++ broken reads from_fault o) e ∙ ap (λ l. l ++ last) grew
-        ∙ append_assoc (told reads from_fault r.now) (hear on.more) last in
-        let now : told reads from_fault next.now ≡ again =
-        ap (λ o. map renew (reads true (b ∷ [])).given ++ broken reads from_fault o) none
-        ∙ append-nil (map renew (reads true (b ∷ [])).given)
-        ∙ ap (map renew) (first.given ∙ ap (λ l. l ++ first.more) quiet) in
+        let said : told reads way s ≡ told reads way r.now ++ (hear on.more ++ last) =
+        ap (λ o. hear new.given ++ broken reads way o) e ∙ ap (λ l. l ++ last) grew
+        ∙ append_assoc (told reads way r.now) (hear on.more) last in
         let place : f.0 ≡ b.place =
         subst (λ (o : Option (Place × Reason)). FaultOn b.place o (Some f)) whole
         (subst (λ (o : Option (Place × Reason)). FaultOn b.place old.fault o) e on.fault) in
         record {
-          more = (hear on.more ++ last) ++ again;
+          more = (hear on.more ++ last) ++ next;
           is =
-              ap (λ l. flat_map (told reads from_fault) (r.past ++ s ∷ []) ++ l) now
-              ∙ ap (λ l. l ++ again) (flat_map-append (told reads from_fault) r.past (s ∷ [])
-              ∙ ap (λ l. past ++ l) (append-nil (told reads from_fault s) ∙ said)
-              ∙ sym (append_assoc past (told reads from_fault r.now) (hear on.more ++ last)))
-              ∙ append_assoc (past ++ told reads from_fault r.now) (hear on.more ++ last) again;
+              ap (λ l. l ++ next) (flat_map-append (told reads way) r.past (s ∷ [])
+              ∙ ap (λ l. past ++ l) (append-nil (told reads way s) ∙ said)
+              ∙ sym (append_assoc past (told reads way r.now) (hear on.more ++ last)))
+              ∙ append_assoc (past ++ told reads way r.now) (hear on.more ++ last) next;
           all =
-              on_append b.place (hear on.more ++ last) again
-              (on_append b.place (hear on.more) last (heard_on r.now.count b.place on.more on.all) (place, tt))
-              (heard_on next.now.count b.place first.more first.all);
-          whole = none;
+              on_append b.place (hear on.more ++ last) next
+              (on_append b.place (hear on.more) last
+              (heard_on reads way r.now.count b.place on.more on.all) (place, tt))
+              (again r.now.hunts r.now.count r.now.units b);
+          whole = sound r.now.hunts r.now.units b whole (ap is_none e);
         }
 
-    one_more : IsMore r (fed reads from_fault r (One b)) b.place
-    one_more = by new.fault refl where
-      by : (o : Option (Place × Reason)) → new.fault ≡ o → IsMore r (fed reads from_fault r (One b)) b.place
-      by None e = subst (λ s. IsMore r s b.place) (sym (one_goes reads r b e)) (goes e)
-      by (Some f) e = subst (λ s. IsMore r s b.place) (sym (one_falls reads r b f e)) (falls f e)
+    one_more : IsMore r (fed reads way r (One b)) b.place
+    one_more = by new.fault refl
 
   -- the last stretch has no fault
-  pub stays_whole : (l : List Fed) (r : Stretches) → IsWhole r → IsWhole (fed_from reads from_fault r l)
-  stays_whole [] r e = e
-  stays_whole (One b ∷ l) r e = stays_whole l (fed reads from_fault r (One b)) (one_more r b e).whole
-  stays_whole (Mark ∷ l) r e = stays_whole l (parted reads from_fault r) fine
+  pub stays_whole : (reads true []).fault ≡ None → (l : List Fed) (r : Stretches) → IsWhole r →
+      IsWhole (fed_from reads way r l)
+  stays_whole fine [] r e = e
+  stays_whole fine (One b ∷ l) r e = stays_whole fine l (fed reads way r (One b)) (one_more r b e).whole
+  stays_whole fine (Mark ∷ l) r e = stays_whole fine l (parted reads way r) fine
 
-  -- with units at places in order
-  pub record IsFed (r s : Stretches) (p : Place) (n : ℕ) : Type 0 where
-    pub more : List (Said (Heard V) × Place)
-    pub is : given s ≡ given r ++ more
-    pub all : AllIn p n more
-
-  pub units_more : (w : List Placed) (r : Stretches) (p : Place) (n : ℕ) → IsWhole r → UnitsIn p n w →
-      IsFed r (fed_from reads from_fault r (map One w)) p n
-  units_more [] r p n e i = record { more = []; is = sym (append-nil (given r)); all = tt }
-  units_more (b ∷ w) r p n e i =
+  -- with units at places in order, up to one
+  pub units_to : (w : List Placed) (r : Stretches) (p q : Place) → IsWhole r → UnitsTo p q w →
+      (more : List (Said (Heard V) × Place))
+      × (given (fed_from reads way r (map One w)) ≡ given r ++ more) × AllTo p q more
+  units_to [] r p q e i = ([], sym (append-nil (given r)), i)
+  units_to (b ∷ w) r p q e i =
       let x = one_more r b e in
-      let y = units_more w (fed reads from_fault r (One b)) b.place n x.whole i.2 in
-      record {
-        more = x.more ++ y.more;
-        is = y.is ∙ ap (λ l. l ++ y.more) x.is ∙ append_assoc (given r) x.more y.more;
-        all = all_on p b.place n x.more y.more x.all i.0 i.1 y.all;
-      }
+      let y = units_to w (fed reads way r (One b)) b.place q x.whole i.1 in (
+        x.more ++ y.0,
+        y.1 ∙ ap (λ l. l ++ y.0) x.is ∙ append_assoc (given r) x.more y.0,
+        to_join p b.place q x.more y.0 (on_to p b.place x.more i.0 x.all) y.2,
+      )
 
   -- with units wherever they are: nothing is taken back
   pub units_grow : (w : List Placed) (r : Stretches) → IsWhole r →
-      (more : List (Said (Heard V) × Place)) × (given (fed_from reads from_fault r (map One w)) ≡ given r ++ more)
+      (more : List (Said (Heard V) × Place)) × (given (fed_from reads way r (map One w)) ≡ given r ++ more)
   units_grow [] r e = ([], sym (append-nil (given r)))
   units_grow (b ∷ w) r e =
       let x = one_more r b e in
-      let y = units_grow w (fed reads from_fault r (One b)) x.whole in (
+      let y = units_grow w (fed reads way r (One b)) x.whole in (
         x.more ++ y.0,
         y.1 ∙ ap (λ l. l ++ y.0) x.is ∙ append_assoc (given r) x.more y.0,
       )

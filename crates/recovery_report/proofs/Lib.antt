@@ -3,6 +3,7 @@ pub mod PortLaws
 pub mod CountLaws
 pub mod Sounds
 pub mod Rises
+pub mod Spans
 pub mod Hearing
 pub mod Singles
 pub mod Guesses

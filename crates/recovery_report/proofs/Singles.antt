@@ -23,10 +23,10 @@ use Rattle.stretch_readings.proofs.StretchLaws.{from_append}
 use Rattle.recovering_machines.specs.Run.{units_in}
 use Rattle.recovering_machines.proofs.Runs.{told_append}
 use Rattle.recovery_report.specs.Placing.{PartsBetween}
-use Rattle.recovery_report.specs.Report.{Part, Run, list_of, report_from_with, said_in, stretches_of}
+use Rattle.recovery_report.specs.Report.{Part, Run, list_of, report_from, said_in, stretches_of}
 use Rattle.recovery_report.specs.Words.{AreOf, singles}
 use Rattle.recovery_report.proofs.Guesses.{run_more}
-use Rattle.recovery_report.proofs.Hearing.{stays_whole, units_grow}
+use Rattle.recovery_report.proofs.Hearing.{from_fault_on, stays_whole, units_grow}
 use Rattle.recovery_report.proofs.Nearing.{parts_below}
 use Rattle.recovery_report.proofs.PartLaws as laws
 use Rattle.recovery_report.proofs.Placing.{parts_le, parts_split}
@@ -71,7 +71,7 @@ module _ (plan : Plan) (kind : SourceKind) (x : ℕ) (k : kind_of plan x ≡ Som
       ap (stretches_of plan kind x) (sym (append_assoc parts (Run (c ∷ []) ∷ []) (singles cells)))
       ∙ singles_own cells (parts ++ Run (c ∷ []) ∷ []) a.1
       ∙ ap (λ (s : Stretches). fed_from reads from_fault s (map One (units_in kind cells)))
-      ((laws.own plan kind x parts (c ∷ []) k a.0).list
+      ((laws.own false plan kind x parts (c ∷ []) k a.0).list
       ∙ ap (λ (w : List Placed). fed_from reads from_fault r (map One w)) (append-nil one))
       ∙ sym (from_append reads from_fault (map One one) (map One (units_in kind cells)) r)
       ∙ ap (λ l. fed_from reads from_fault r l) (sym (map-append One one (units_in kind cells)))
@@ -87,14 +87,15 @@ module _ (plan : Plan) (kind : SourceKind) (x : ℕ) (k : kind_of plan x ≡ Som
       let h = packets_hunt plan.packets in
       let sound = sources_sound plan.order kind in
       let begins = sources_begin plan.order kind in
-      let whole = stays_whole reads (rises plan.order kind) sound (quiet plan kind true) (begins true)
-      (list_of kind x parts) (before reads from_fault h) (begins h) in
-      let g = units_grow reads (rises plan.order kind) sound (quiet plan kind true) (begins true) (units_in kind cells)
+      let on = from_fault_on reads (rises plan.order kind) begins (quiet plan kind) in
+      let whole = stays_whole reads (rises plan.order kind) from_fault sound on (begins true) (list_of kind x parts)
+      (before reads from_fault h) (begins h) in
+      let g = units_grow reads (rises plan.order kind) from_fault sound on (units_in kind cells)
       (stretches_of plan kind x parts) whole in
       (g.0, ap (λ (r : Stretches). (heard_of reads from_fault r).given) (singles_own cells parts a) ∙ g.1)
   grows true cells parts at a b =
       let s = parts_split parts (singles cells) 0 at b in
-      let near = run_more reads (rises plan.order kind) (sources_begin plan.order kind) (quiet plan kind true)
+      let near = run_more reads (rises plan.order kind) (sources_begin plan.order kind) (quiet plan kind)
       (sources_sound plan.order kind) kind cells s.mid at (stretches_of plan kind x parts)
       (singles_within cells s.mid at s.back) (parts_le (singles cells) s.mid at s.back)
       (parts_below plan parts s.mid s.front x kind) in
@@ -102,17 +103,17 @@ module _ (plan : Plan) (kind : SourceKind) (x : ℕ) (k : kind_of plan x ≡ Som
 
   -- what they add is what they say
   module _ (guesses : Bool) where
-    abbrev said_by : List Part → List (Said (Heard Packet) × Place)
-    said_by parts = said_in guesses plan kind x parts
+    abbrev said_with : List Part → List (Said (Heard Packet) × Place)
+    said_with parts = said_in guesses plan kind x parts
 
     pub singles_added : (cells : List Cell) (parts : List Part) (at : ℕ)
         (said : List (Said (Heard Packet) × Place)) → AreOf x cells → PartsBetween 0 at (parts ++ singles cells) →
-        said_by (parts ++ singles cells) ≡ said_by parts ++ said →
-        report_from_with guesses plan parts (singles cells) ≡ told (Some x) (lifted said)
+        said_with (parts ++ singles cells) ≡ said_with parts ++ said →
+        report_from guesses plan parts (singles cells) ≡ told (Some x) (lifted said)
     singles_added [] parts at said a b e =
         let none : [] ≡ said =
-        append_cancel_left (said_by parts) [] said (append-nil (said_by parts)
-        ∙ sym (ap said_by (append-nil parts)) ∙ e) in
+        append_cancel_left (said_with parts) [] said (append-nil (said_with parts)
+        ∙ sym (ap said_with (append-nil parts)) ∙ e) in
         ap (λ l. told (Some x) (lifted l)) none
     singles_added (c ∷ cells) parts at said a b e =
         let next = parts ++ Run (c ∷ []) ∷ [] in
@@ -121,13 +122,13 @@ module _ (plan : Plan) (kind : SourceKind) (x : ℕ) (k : kind_of plan x ≡ Som
         let s = parts_split next (singles cells) 0 at placed in
         let one = grows guesses (c ∷ []) parts s.mid (a.0, tt) s.front in
         let rest = grows guesses cells next at a.1 placed in
-        let all : said_by (next ++ singles cells) ≡ said_by parts ++ said =
-        ap said_by (append_assoc parts (Run (c ∷ []) ∷ []) (singles cells)) ∙ e in
+        let all : said_with (next ++ singles cells) ≡ said_with parts ++ said =
+        ap said_with (append_assoc parts (Run (c ∷ []) ∷ []) (singles cells)) ∙ e in
         let parts_are : said ≡ one.0 ++ rest.0 =
-        append_cancel_left (said_by parts) said (one.0 ++ rest.0)
-        (sym all ∙ rest.1 ∙ ap (λ l. l ++ rest.0) one.1 ∙ append_assoc (said_by parts) one.0 rest.0) in
-        ap (λ l. l ++ report_from_with guesses plan next (singles cells))
-        ((laws.own_with guesses plan kind x parts (c ∷ []) k a.0).more one.0 one.1)
+        append_cancel_left (said_with parts) said (one.0 ++ rest.0)
+        (sym all ∙ rest.1 ∙ ap (λ l. l ++ rest.0) one.1 ∙ append_assoc (said_with parts) one.0 rest.0) in
+        ap (λ l. l ++ report_from guesses plan next (singles cells))
+        ((laws.own guesses plan kind x parts (c ∷ []) k a.0).more one.0 one.1)
         ∙ ap (λ l. told (Some x) (lifted one.0) ++ l) (singles_added cells next at rest.0 a.1 placed rest.1)
         ∙ sym (told_append x one.0 rest.0)
         ∙ ap (λ l. told (Some x) (lifted l)) (sym parts_are)

@@ -1,5 +1,5 @@
 -- The recovering report of a capture.
-use Rattle.std.specs.Prelude.{ℕ, List, [], ◌∷◌, ◌++◌, map, filter, flat_map, drop, length, Bool, true, false, not}
+use Rattle.std.specs.Prelude.{ℕ, List, [], ◌∷◌, ◌++◌, map, filter, flat_map, length, Bool, true, false, not}
 use Rattle.std.specs.Prelude.{Option, None, Some, if◌then◌else◌}
 use Rattle.std.specs.List.{range_with_len}
 use Rattle.trace_values.specs.declared.cell.Cell.{Cell}
@@ -23,7 +23,7 @@ use Rattle.source_events.specs.declared.port_mode.PortMode.{PortMode}
 use Rattle.source_events.specs.declared.port_mode.PortMode.TheVariants.{Bare, Aligned, Locked as IsLocked, Hunting}
 use Rattle.source_events.specs.declared.tails.SourceTail.{SourceTail}
 use Rattle.source_events.specs.declared.tails.Tails.{Tails}
-use Rattle.source_events.specs.Merge.{told}
+use Rattle.source_events.specs.Merge.{grown, merged_from}
 use Rattle.source_events.specs.Plan.{kind_of}
 use Rattle.source_events.specs.Report.{lifted, raws}
 use Rattle.source_events.specs.Runs.{id_of, all_runs}
@@ -88,56 +88,44 @@ said_in guesses plan kind x parts =
     said_of (reads_by plan.order kind) from_fault guesses (stretches_of plan kind x parts)
 
 -- what a source says in parts
-abbrev pub events_by_with : Bool → Plan → Option SourceKind → ℕ → List Part → List (What (Heard Packet) × Place)
-events_by_with guesses plan None x parts = raws x (flat_map run_in parts)
-events_by_with guesses plan (Some kind) x parts = lifted (said_in guesses plan kind x parts)
+abbrev pub events_by : Bool → Plan → Option SourceKind → ℕ → List Part → List (What (Heard Packet) × Place)
+events_by guesses plan None x parts = raws x (flat_map run_in parts)
+events_by guesses plan (Some kind) x parts = lifted (said_in guesses plan kind x parts)
 
-abbrev pub events_of_with : Bool → Plan → ℕ → List Part → List (What (Heard Packet) × Place)
-events_of_with guesses plan x parts = events_by_with guesses plan (kind_of plan x) x parts
+-- what the port says in a part: a lock, or a fault
+abbrev pub port_said : Part → List (What (Heard Packet) × Place)
+port_said (Run run) = []
+port_said (Locks skipped place) = (Locked skipped, place) ∷ []
+port_said (Breaks reason place) = (Said (Broken reason), place) ∷ []
 
--- what one more part adds: a run to the events of its source, a lock or a fault to those of the port
-abbrev pub added_by_with : Bool → Plan → List Part → Option ℕ → Part → List (Event (Heard Packet))
-added_by_with guesses plan before None m = []
-added_by_with guesses plan before (Some x) m =
-    told (Some x) (drop (length (events_of_with guesses plan x before))
-    (events_of_with guesses plan x (before ++ m ∷ [])))
+-- what the port says in parts, and what each source says
+abbrev pub said_by : Bool → Plan → Option ℕ → List Part → List (What (Heard Packet) × Place)
+said_by guesses plan None parts = flat_map port_said parts
+said_by guesses plan (Some x) parts = events_by guesses plan (kind_of plan x) x parts
 
-abbrev pub added_with : Bool → Plan → List Part → Part → List (Event (Heard Packet))
-added_with guesses plan before (Run run) = added_by_with guesses plan before (id_of run) (Run run)
-added_with guesses plan before (Locks skipped place) = told None ((Locked skipped, place) ∷ [])
-added_with guesses plan before (Breaks reason place) = told None ((Said (Broken reason), place) ∷ [])
-
-abbrev pub report_from_with : Bool → Plan → List Part → List Part → List (Event (Heard Packet))
-report_from_with guesses plan before [] = []
-report_from_with guesses plan before (m ∷ ms) =
-    added_with guesses plan before m ++ report_from_with guesses plan (before ++ m ∷ []) ms
+-- Whose a part is: a source's, or the port's. In a run of no source the port says nothing.
+abbrev pub whose : Part → Option ℕ
+whose (Run run) = id_of run
+whose (Locks skipped place) = None
+whose (Breaks reason place) = None
 
 -- the events of a capture, in order, with guesses or without
 abbrev pub report_with : Bool → Plan → List Placed → List (Event (Heard Packet))
-report_with guesses plan u = report_from_with guesses plan [] (parts_in (recovered plan.frames u))
+report_with guesses plan u = merged_from whose (said_by guesses plan) [] (parts_in (recovered plan.frames u))
+
+abbrev pub report : Plan → List Placed → List (Event (Heard Packet))
+report plan u = report_with false plan u
+
+-- what one more part adds, and the events of parts after others
+abbrev pub added : Bool → Plan → List Part → Part → List (Event (Heard Packet))
+added guesses plan before m = grown (said_by guesses plan) before m (whose m)
+
+abbrev pub report_from : Bool → Plan → List Part → List Part → List (Event (Heard Packet))
+report_from guesses plan before ms = merged_from whose (said_by guesses plan) before ms
 
 -- those of these events that are no guesses
 abbrev pub sure_events : List (Event (Heard Packet)) → List (Event (Heard Packet))
 sure_events es = filter (λ e. not (is_guess e.what)) es
-
--- what sources say, what parts add and the report without guesses
-abbrev pub events_by : Plan → Option SourceKind → ℕ → List Part → List (What (Heard Packet) × Place)
-events_by plan kind x parts = events_by_with false plan kind x parts
-
-abbrev pub events_of : Plan → ℕ → List Part → List (What (Heard Packet) × Place)
-events_of plan x parts = events_of_with false plan x parts
-
-abbrev pub added_by : Plan → List Part → Option ℕ → Part → List (Event (Heard Packet))
-added_by plan before x m = added_by_with false plan before x m
-
-abbrev pub added : Plan → List Part → Part → List (Event (Heard Packet))
-added plan before m = added_with false plan before m
-
-abbrev pub report_from : Plan → List Part → List Part → List (Event (Heard Packet))
-report_from plan before ms = report_from_with false plan before ms
-
-abbrev pub report : Plan → List Placed → List (Event (Heard Packet))
-report plan u = report_with false plan u
 
 -- how the last stretch was read
 abbrev pub mode_by : Bool → Bool → PortMode

@@ -16,7 +16,7 @@ use Rattle.stretch_readings.specs.declared.heard.Heard.{Heard}
 use Rattle.stretch_readings.specs.Stretches.{One, fed_from, from_fault}
 use Rattle.recovering_machines.specs.Run.{units_in}
 use Rattle.source_machine.specs.Units.{reads_by}
-use Rattle.recovery_report.specs.Report.{Part, Run, Locks, Breaks, added_with, said_in, stretches_of}
+use Rattle.recovery_report.specs.Report.{Part, Run, Locks, Breaks, added, said_in, stretches_of}
 
 -- A run of a mapped source: its stretches take the run's units, and what they say more, with guesses or without, is
 -- what that report has more.
@@ -26,7 +26,7 @@ pub record OwnRun (guesses : Bool) (plan : Plan) (kind : SourceKind) (x : ℕ) (
       ≡ fed_from (reads_by plan.order kind) from_fault (stretches_of plan kind x parts) (map One (units_in kind run))
   pub more : (said : List (Said (Heard Packet) × Place)) →
       said_in guesses plan kind x (parts ++ Run run ∷ []) ≡ said_in guesses plan kind x parts ++ said →
-      added_with guesses plan parts (Run run) ≡ told (Some x) (lifted said)
+      added guesses plan parts (Run run) ≡ told (Some x) (lifted said)
 
 -- what a step of the port at this offset adds, with these cells where it ends a frame
 abbrev pub parts_by : ℕ → ℕ → PortStep → List Cell → List Part

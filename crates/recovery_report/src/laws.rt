@@ -26,15 +26,15 @@ ghost use Rattle.stretch_readings.specs.Stretches.{stretches};
 ghost use Rattle.recovery_report.specs.Placing.{PartsBetween};
 ghost use Rattle.recovery_report.specs.Port.{of_stretches, recovered};
 ghost use Rattle.source_machine.specs.Units.{reads_by};
-ghost use Rattle.recovery_report.specs.Report.{Part, Run, Locks, Breaks, added_with, parts_in, report_from_with};
+ghost use Rattle.recovery_report.specs.Report.{Part, Run, Locks, Breaks, added, parts_in, report_from};
 ghost use Rattle.recovery_report.specs.Report.{stretches_of};
 ghost use Rattle.recovery_report.specs.Words.{OwnRun, parts_by};
 
 /// With one more part the report, with guesses or without, has what the part adds, and nothing is taken back.
 pub fn growing_law()
     ensures { (guesses : Bool) (plan : Plan) (parts : List Part) (m : Part) →
-        report_from_with guesses plan [] (parts ++ m ∷ []) ≡
-        report_from_with guesses plan [] parts ++ added_with guesses plan parts m }
+        report_from guesses plan [] (parts ++ m ∷ []) ≡
+        report_from guesses plan [] parts ++ added guesses plan parts m }
 {}
 
 /// What one more part is to a mapped source: a run of its own, a run of another one, a lock of the port, or a cut.

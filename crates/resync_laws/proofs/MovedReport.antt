@@ -11,7 +11,7 @@ use Rattle.resync_laws.specs.Names.{cells_below, cells, id_after, PortItem, Full
 use Rattle.resync_laws.specs.Names.{frames_of_items, framed, bare_cell, bare, port_reading, Event, What, Raw, Trigger}
 use Rattle.resync_laws.specs.Names.{joined, runs_of, all_runs, id_of, bytes_of, placed_run, last_at, list_of, told}
 use Rattle.resync_laws.specs.Names.{grown, merged_from, what_of, lifted, triggers, raw_events, raws, events, all_events}
-use Rattle.resync_laws.specs.Names.{later_place, later}
+use Rattle.resync_laws.specs.Names.{later_place, later, of_sources}
 use Rattle.trace_values.proofs.Readings as readings
 use Rattle.frame_grammar.specs.Reading.{offsets_of, item_id, fulls_in, is_source, port_reading as grammar_reading}
 use Rattle.frame_grammar.proofs.Deciding.{port_decided}
@@ -231,7 +231,10 @@ module _ (c : ℕ) where
     drop_later (suc n) (e ∷ es) = drop_later n es
 
     module _ {K : Type 0} (ps : List (Resumed K V)) (can : CanAll ps) where
-      grown_later : (before : List (List Cell)) (run : List Cell) (o : Option ℕ) → grown (events (rests ps)) (later_runs before) (later_run c run) o ≡ map (λ e. later_event c e) (grown (events (rests ps)) before run o)
+      abbrev said : Option ℕ → List (List Cell) → List (What V × Place)
+      said = of_sources (events (rests ps))
+
+      grown_later : (before : List (List Cell)) (run : List Cell) (o : Option ℕ) → grown said (later_runs before) (later_run c run) o ≡ map (λ e. later_event c e) (grown said before run o)
       grown_later before run None = refl
       grown_later before run (Some x) =
           let all : events (rests ps) x (later_runs before ++ later_run c run ∷ []) ≡ later_given (events (rests ps) x (before ++ run ∷ [])) =
@@ -243,14 +246,14 @@ module _ (c : ℕ) where
           ∙ ap (told (Some x)) (drop_later (length (events (rests ps) x before)) (events (rests ps) x (before ++ run ∷ [])))
           ∙ told_later (Some x) (drop (length (events (rests ps) x before)) (events (rests ps) x (before ++ run ∷ [])))
 
-      merged_later : (runs before : List (List Cell)) → merged_from id_of (events (rests ps)) (later_runs before) (later_runs runs) ≡ map (λ e. later_event c e) (merged_from id_of (events (rests ps)) before runs)
+      merged_later : (runs before : List (List Cell)) → merged_from id_of said (later_runs before) (later_runs runs) ≡ map (λ e. later_event c e) (merged_from id_of said before runs)
       merged_later [] before = refl
       merged_later (run ∷ runs) before =
-          ap (λ (o : Option ℕ). grown (events (rests ps)) (later_runs before) (later_run c run) o ++ merged_from id_of (events (rests ps)) (later_runs before ++ later_run c run ∷ []) (later_runs runs)) (id_later run)
-          ∙ ap (λ (l : List (Event V)). l ++ merged_from id_of (events (rests ps)) (later_runs before ++ later_run c run ∷ []) (later_runs runs)) (grown_later before run (id_of run))
-          ∙ ap (λ (l : List (Event V)). map (λ e. later_event c e) (grown (events (rests ps)) before run (id_of run)) ++ l)
-          (ap (λ (l : List (List Cell)). merged_from id_of (events (rests ps)) l (later_runs runs)) (sym (map-append (λ (r : List Cell). later_run c r) before (run ∷ []))) ∙ merged_later runs (before ++ run ∷ []))
-          ∙ sym (map-append (λ (e : Event V). later_event c e) (grown (events (rests ps)) before run (id_of run)) (merged_from id_of (events (rests ps)) (before ++ run ∷ []) runs))
+          ap (λ (o : Option ℕ). grown said (later_runs before) (later_run c run) o ++ merged_from id_of said (later_runs before ++ later_run c run ∷ []) (later_runs runs)) (id_later run)
+          ∙ ap (λ (l : List (Event V)). l ++ merged_from id_of said (later_runs before ++ later_run c run ∷ []) (later_runs runs)) (grown_later before run (id_of run))
+          ∙ ap (λ (l : List (Event V)). map (λ e. later_event c e) (grown said before run (id_of run)) ++ l)
+          (ap (λ (l : List (List Cell)). merged_from id_of said l (later_runs runs)) (sym (map-append (λ (r : List Cell). later_run c r) before (run ∷ []))) ∙ merged_later runs (before ++ run ∷ []))
+          ∙ sym (map-append (λ (e : Event V). later_event c e) (grown said before run (id_of run)) (merged_from id_of said (before ++ run ∷ []) runs))
 
       -- all events of the rest, at later places
       pub report_later : (runs : List (List Cell)) → all_events (rests ps) (later_runs runs) ≡ map (λ e. later_event c e) (all_events (rests ps) runs)

@@ -17,8 +17,8 @@ pub use Rattle.resync_rules.specs.Fronts.{Hunting, IsFirstSync, IsRest, IsSync}
 pub use Rattle.resync_rules.specs.Moved.{later, later_fault, later_place, later_stream}
 pub use Rattle.resync_rules.specs.Points.{AllFrom, Between, Follows, FollowsFrom, IsRising, from_point, is_from}
 pub use Rattle.resync_rules.specs.Points.{items_of, key, point_in, point_of}
-pub use Rattle.source_events.specs.Merge.{AllIn, IsAtMost, cut, grown, is_of, merged_from, part, place_of, start_of}
-pub use Rattle.source_events.specs.Merge.{told}
+pub use Rattle.source_events.specs.Merge.{AllIn, IsAtMost, cut, grown, is_of, merged_from, of_sources, part, place_of}
+pub use Rattle.source_events.specs.Merge.{start_of, told}
 pub use Rattle.source_events.specs.Packets.{given_as, said_as, stream_as}
 pub use Rattle.source_events.specs.Plan.{kind_of, mapped_ids, sources_by, stream_of}
 pub use Rattle.source_events.specs.Report.{AreLawful, IsLawful, Mapped, all_events, capture_events, events, is_item}

@@ -4,7 +4,7 @@ use Rattle.std.proofs.Common.{true, false, Option, None, Some, map, flat_map, Al
 use Rattle.script_laws.specs.Names.{Cell, Place, Placed, placed, Aligned, Tagged, joined, written_segments}
 use Rattle.script_laws.specs.Names.{ItmPacket, packets_in, StpItem, AreFitting, Event, What, Packet, Plan, SourceKind}
 use Rattle.script_laws.specs.Names.{IsMerged, told, part, cut, kind_of, sources_by, is_sound, Mapped, events, raws}
-use Rattle.script_laws.specs.Names.{lesser, of_source, least_fault, port_events, runs_in, stop_in, capture_events}
+use Rattle.script_laws.specs.Names.{given_in, lesser, of_source, least_fault, runs_in, stop_in, capture_events}
 use Rattle.script_laws.specs.Names.{list_of, tail_of, Line2, given_packets, given_items, given_puts, given_bytes}
 use Rattle.script_laws.specs.Names.{script_segments}
 use Rattle.trace_values.specs.declared.fault.Reason.{Reason}
@@ -88,13 +88,13 @@ module _ (every halves : ℕ) (plan : Plan) (lines : List Line2) (sound : is_sou
   report_is : report_of plan u ≡ capture_events sources Aligned u
   report_is = ap (λ (o : Option Full). cut o (capture_events sources Aligned u)) no_fault
 
-  merged : IsMerged (port_events Aligned u) (events sources) runs (capture_events sources Aligned u)
+  merged : IsMerged (given_in sources Aligned u) (capture_events sources Aligned u)
   merged =
       (capture_merged Packet sources (plan_lawful (aligned plan)) Aligned u 0 (length capture) (capture_rises capture)
       (capture_events sources Aligned u)).1 refl
 
   part_is : (x : ℕ) → part (Some x) (report_of plan u) ≡ told (Some x) (events sources x runs)
-  part_is x = ap (λ (es : List (Event Packet)). part (Some x) es) report_is ∙ merged.of_source x
+  part_is x = ap (λ (es : List (Event Packet)). part (Some x) es) report_is ∙ merged.parts (Some x)
 
   said_is : (x : ℕ) → said_of plan u x ≡ whats (events sources x runs)
   said_is x = ap (λ (es : List (Event Packet)). map (λ (e : Event Packet). e.what) es) (part_is x) ∙ told_whats (Some x) (events sources x runs)
@@ -155,5 +155,5 @@ module _ (every halves : ℕ) (plan : Plan) (lines : List Line2) (sound : is_sou
     bytes = λ x l h k. other_bytes x l k;
     silent = λ x e. no_whats (part (Some x) (report_of plan u)) (unsaid x e);
     absent = λ x l e. no_cell capture bytes law x (not_null x l) (kept x ∙ none_bytes plan x sound lines good e);
-    no_notice = ap (λ (es : List (Event Packet)). part None es) report_is ∙ merged.of_port;
+    no_notice = ap (λ (es : List (Event Packet)). part None es) report_is ∙ merged.parts None;
   }

@@ -61,8 +61,8 @@ pub use Rattle.script_text.specs.declared.version_two.Line2.{Line2}
 pub use Rattle.script_text.specs.declared.version_two.Line2.TheVariants.{Flush, One, Trigger}
 pub use Rattle.source_events.specs.Merge.{IsMerged, cut, part, told}
 pub use Rattle.source_events.specs.Plan.{are_sound, is_sound, kind_of, sources_by, stream_of}
-pub use Rattle.source_events.specs.Report.{Mapped, capture_events, events, least_fault, lesser, lifted, of_source}
-pub use Rattle.source_events.specs.Report.{port_events, raw_events, raws, report, runs_in, stop_in, triggers, what_of}
+pub use Rattle.source_events.specs.Report.{Mapped, capture_events, events, given_in, least_fault, lesser, lifted}
+pub use Rattle.source_events.specs.Report.{of_source, raw_events, raws, report, runs_in, stop_in, triggers, what_of}
 pub use Rattle.source_events.specs.Runs.{bytes_of, id_of, last_at, list_of, placed_run}
 pub use Rattle.source_events.specs.Tails.{tail_of}
 pub use Rattle.source_events.specs.declared.event.Event.{Event}

@@ -11,8 +11,8 @@ use Rattle.frame_grammar.specs.Reading.{is_source}
 use Rattle.source_events.specs.declared.event.What.{What}
 use Rattle.source_events.specs.declared.event.What.TheVariants.{Raw, Trigger}
 use Rattle.source_events.specs.Runs.{id_of, bytes_of, placed_run, last_at, RisesFrom, IsRunFrom, end_of, list_of}
-use Rattle.source_events.specs.Merge.{IsAtMost, start_of, AllIn}
-use Rattle.source_events.proofs.Adding.{AddsAlways}
+use Rattle.source_events.specs.Merge.{IsAtMost, start_of, AllIn, of_sources}
+use Rattle.source_events.proofs.Adding.{Adds, AddsAlways, GoesOn}
 use Rattle.source_events.specs.Report.{Mapped, AreLawful, what_of, lifted, raw_events, raws, events}
 use Rattle.source_events.proofs.Merges.{test_same, test_other, same_or_not}
 
@@ -76,6 +76,13 @@ all_raw V x n run r = by (x == 0) (x == 125) where
   by true t = tt
   by false true = all_triggers V run n (end_of run) (within_run n run r) (start_of n) (inr (refl, (let z : 0 ≤ 0 = omega arith in z)))
   by false false = ((let k = last_from n run r in grind (arith, k)), (let z : last_at run < last_at run + 1 = omega arith in z), tt)
+
+-- wherever the runs before it are
+abbrev pub Anywhere : ℕ → List (List Cell) → Type 0
+Anywhere n before = Unit {0}
+
+pub anywhere : GoesOn Anywhere IsRunFrom end_of
+anywhere n before m a r = tt
 
 module _ {V : Type 0} where
   pub all_lifted : (p : Place) (hi : ℕ) (xs : List (Said V × Place)) → AllIn p hi xs → AllIn p hi (lifted xs)
@@ -147,12 +154,13 @@ module _ {V : Type 0} where
   own_stays s ss x before m e o =
       events_own s ss x (before ++ m ∷ []) e ∙ ap (λ (l : List Placed). lifted (s.stream l).given) (list_other x before m o) ∙ sym (events_own s ss x before e) ∙ sym (append-nil (events (s ∷ ss) x before))
 
-  pub adds : (ss : List (Mapped V)) → AreLawful ss → AddsAlways IsRunFrom end_of id_of (events ss)
-  adds [] law x n before m r = elim (of_cases x (id_of m)) [
+  source_adds : (ss : List (Mapped V)) → AreLawful ss → (x n : ℕ) (before : List (List Cell)) (m : List Cell) →
+      IsRunFrom n m → Adds end_of id_of (of_sources (events ss)) (Some x) n before m
+  source_adds [] law x n before m r = elim (of_cases x (id_of m)) [
     | inl o ↦ record { more = raw_events x m; given = raws_own x before m o.1; all = all_raw V x n m r; own = λ k. absurd (k o.0) }
     | inr o ↦ record { more = []; given = raws_other x before m o.1; all = tt; own = λ k. refl }
   ]
-  adds (s ∷ ss) law x n before m r = elim (same_or_not x s.id) [
+  source_adds (s ∷ ss) law x n before m r = elim (same_or_not x s.id) [
     | inl e ↦ elim (of_cases x (id_of m)) [
       | inl o ↦
           (let k = run_more s.stream law.0.rises m (list_of x before) n (end_of m) (within_run n m r) in
@@ -165,13 +173,22 @@ module _ {V : Type 0} where
       | inr o ↦ record { more = []; given = own_stays s ss x before m e o.1; all = tt; own = λ k. refl }
     ]
     | inr e ↦
-        (let k = adds ss law.1 x n before m r in
+        (let k = source_adds ss law.1 x n before m r in
         record { more = k.more; given = events_other s ss x (before ++ m ∷ []) e ∙ k.given ∙ ap (λ l. l ++ k.more) (sym (events_other s ss x before e)); all = k.all; own = k.own })
   ]
 
-  pub none_first : (ss : List (Mapped V)) → AreLawful ss → (x : ℕ) → events ss x [] ≡ []
-  none_first [] law x = refl
-  none_first (s ∷ ss) law x = elim (same_or_not x s.id) [
+  pub adds : (ss : List (Mapped V)) → AreLawful ss →
+      AddsAlways Anywhere IsRunFrom end_of id_of (of_sources (events ss))
+  adds ss law None n before m a r = record { more = []; given = refl; all = tt; own = λ k. refl }
+  adds ss law (Some x) n before m a r = source_adds ss law x n before m r
+
+  source_first : (ss : List (Mapped V)) → AreLawful ss → (x : ℕ) → events ss x [] ≡ []
+  source_first [] law x = refl
+  source_first (s ∷ ss) law x = elim (same_or_not x s.id) [
     | inl e ↦ events_own s ss x [] e ∙ ap lifted law.0.begins
-    | inr e ↦ events_other s ss x [] e ∙ none_first ss law.1 x
+    | inr e ↦ events_other s ss x [] e ∙ source_first ss law.1 x
   ]
+
+  pub none_first : (ss : List (Mapped V)) → AreLawful ss → (x : Option ℕ) → of_sources (events ss) x [] ≡ []
+  none_first ss law None = refl
+  none_first ss law (Some x) = source_first ss law x

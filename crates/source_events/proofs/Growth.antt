@@ -1,5 +1,5 @@
 -- Further bytes mend no fault of a capture, and take nothing of its report back.
-use Rattle.std.proofs.Common.{◌≡◌, ℕ, suc, ◌+◌, ◌<◌, ◌≤◌, List, [], ◌∷◌, ◌++◌, length, refl, sym, ◌∙◌, ap, subst}
+use Rattle.std.proofs.Common.{◌≡◌, ℕ, ◌+◌, ◌≤◌, List, [], ◌∷◌, ◌++◌, length, refl, sym, ◌∙◌, ap, subst}
 use Rattle.std.proofs.Common.{append_assoc, append-nil, ◌⊎◌, inl, inr, arith, Option, None, Some, Bool, true, false}
 use Rattle.std.proofs.Common.{cond}
 use Rattle.std.specs.Prelude.{is_none}
@@ -13,26 +13,25 @@ use Rattle.trace_values.specs.declared.reading_modes.FramesMode.{FramesMode}
 use Rattle.trace_values.specs.declared.reading_modes.FramesMode.TheVariants.{Hunt, Aligned, Bare}
 use Rattle.frame_grammar.specs.Port.{PortItem}
 use Rattle.frame_grammar.specs.Reading.{offsets_of}
-use Rattle.deformatter.specs.Reading.{PortStream, port_stream, read_after}
-use Rattle.deformatter.proofs.Readings.{hunt_is, by_mode, IsRead, seeks_old, port_hunt}
+use Rattle.deformatter.specs.Reading.{PortStream, port_stream}
+use Rattle.deformatter.proofs.Readings.{hunt_is, by_mode, seeks_old}
 use Rattle.deformatter.proofs.ReadingLaws.{settles as port_settles, rises as port_rises}
 use Rattle.deformatter.specs.PortReading.{PortReading, framed, port_reading}
 use Rattle.deformatter.specs.Rising.{Rise, BytesRise}
 use Rattle.deformatter.proofs.PortReadingLaws as port
-use Rattle.deformatter.proofs.RisingLaws.{rise_le, rise_join, placed_rise}
+use Rattle.deformatter.proofs.RisingLaws.{rise_join, placed_rise}
 use Rattle.source_events.specs.declared.event.Event.{Event}
 use Rattle.source_events.specs.declared.event.What.{What}
 use Rattle.source_events.specs.Runs.{id_of, runs_of, all_runs, IsRunFrom, end_of}
-use Rattle.source_events.specs.Merge.{told, start_of, AllIn, merged_from, cut, InOrder, Below}
+use Rattle.source_events.specs.Merge.{told, start_of, AllIn, merged_from, of_sources, cut, InOrder, Below}
 use Rattle.source_events.specs.Report.{Mapped, AreLawful, events, lesser, is_less, of_source, least_fault, all_events}
 use Rattle.source_events.specs.Report.{lock_at, port_events, runs_in, stop_in, capture_events, report}
 use Rattle.source_events.proofs.Merges.{cut_append, cut_below, below_told, below_weaker}
 use Rattle.source_events.proofs.Running.{end_within, rises_weaker}
-use Rattle.source_events.proofs.Placing.{RunsBetween, runs_between, between_order}
+use Rattle.source_events.proofs.Placing.{RunsBetween, between_order}
 use Rattle.source_events.proofs.Locking.{first_end, port_first, runs_first}
 use Rattle.source_events.proofs.LockSteps.{unlocked, locked, same_notice}
 use Rattle.source_events.proofs.Least.{Full, Later, later_weaker, later_of, later_both, second_wins, others_later}
-use Rattle.source_events.proofs.Least.{least_none}
 use Rattle.source_events.proofs.Settling.{all_sound, least_stays, least_below, cut_stays, cut_grows}
 
 -- where the report has no fault, the port has none
@@ -301,7 +300,7 @@ module _ {V : Type 0} (ss : List (Mapped V)) (law : AreLawful ss) (mode : Frames
         (later_of k.end None (port_reading mode (and_then u at ys)).fault port_after)
         (subst (λ (l : List (List Cell)). Later k.end (least_fault ss l)) (sym (runs_more mode u at ys)) all) in
         let front = told {V = V} None (port_events mode u) in
-        let given = cut stop (merged_from id_of (events ss) runs tail) in (
+        let given = cut stop (merged_from id_of (of_sources (events ss)) runs tail) in (
           given,
           ap (λ (g : List (What V × Place)). cut stop (told None g ++ all_events ss (runs_in (port_reading mode (and_then u at ys))))) same
               ∙ cut_both stop front (all_events ss (runs_in (port_reading mode (and_then u at ys))))

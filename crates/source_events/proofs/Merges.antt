@@ -1,16 +1,15 @@
--- The merged list is sorted, has the port's events as its part of the port and each source's as its part of that source,
--- and is the only one.
+-- The merged list is sorted, has what the port says as its part of the port and what each source says as its part of
+-- that source, and is the only one.
 use Rattle.std.proofs.Common.{◌≡◌, ◌≢◌, ℕ, ◌+◌, ◌<◌, ◌≤◌, List, [], ◌∷◌, ◌++◌, length, refl, sym, ◌∙◌, ap, ◌⊎◌, inl, inr, append_assoc, append-nil, arith, subst, Option, None, Some, Bool, true, false, cond}
 use Rattle.std.specs.Prelude.{drop, ◌==◌, ◌&&◌, ◌||◌, nat_lt}
 use Rattle.std.proofs.lemmas.Bool.Decides.{nat_tests}
 use Rattle.std.proofs.lemmas.List.{map-append, drop_at}
 use Rattle.std.proofs.lemmas.List.Elements.{filter-append}
 use Rattle.trace_values.specs.Placed.{Place}
-use Rattle.frame_grammar.specs.Reading.{is_source}
 use Rattle.source_events.specs.declared.event.Event.{Event}
 use Rattle.source_events.specs.declared.event.What.{What}
-use Rattle.source_events.specs.Merge.{told, place_of, grown, merged_from, merged, is_of, part, IsAtMost, start_of, SortedFrom, InOrder, Between, AllIn, IsMerged, is_before, cut, From, Below}
-use Rattle.source_events.proofs.Adding.{AddsAlways}
+use Rattle.source_events.specs.Merge.{told, place_of, grown, merged_from, is_of, part, IsAtMost, start_of, SortedFrom, InOrder, Between, AllIn, IsMerged, is_before, cut, From, Below}
+use Rattle.source_events.proofs.Adding.{AddsAlways, GoesOn}
 
 pub test_same : (a b : ℕ) → a ≡ b → (a == b) ≡ true
 test_same a b e = grind (arith, nat_tests)
@@ -152,13 +151,13 @@ cut_behind f (e ∷ es) b =
 pub cut_append : {V F : Type 0} (f : Place × F) (xs ys : List (Event V)) → cut (Some f) (xs ++ ys) ≡ cut (Some f) xs ++ cut (Some f) ys
 cut_append {V} f xs ys = filter-append (λ (e : Event V). is_before f.0 e) xs ys
 
-pub merged_append : {X V : Type 0} (source : X → Option ℕ) (events : ℕ → List X → List (What V × Place)) (ms ns before : List X) →
-    merged_from source events before (ms ++ ns) ≡ merged_from source events before ms ++ merged_from source events (before ++ ms) ns
-merged_append {X} source events [] ns before = ap (λ (l : List X). merged_from source events l ns) (sym (append-nil before))
-merged_append {X} source events (m ∷ ms) ns before =
-    ap (λ l. grown events before m (source m) ++ l) (merged_append source events ms ns (before ++ m ∷ []))
-    ∙ ap (λ (l : List X). grown events before m (source m) ++ (merged_from source events (before ++ m ∷ []) ms ++ merged_from source events l ns)) (append_assoc before (m ∷ []) ms)
-    ∙ sym (append_assoc (grown events before m (source m)) (merged_from source events (before ++ m ∷ []) ms) (merged_from source events (before ++ (m ∷ ms)) ns))
+pub merged_append : {X V : Type 0} (whose : X → Option ℕ) (said : Option ℕ → List X → List (What V × Place)) (ms ns before : List X) →
+    merged_from whose said before (ms ++ ns) ≡ merged_from whose said before ms ++ merged_from whose said (before ++ ms) ns
+merged_append {X} whose said [] ns before = ap (λ (l : List X). merged_from whose said l ns) (sym (append-nil before))
+merged_append {X} whose said (m ∷ ms) ns before =
+    ap (λ l. grown said before m (whose m) ++ l) (merged_append whose said ms ns (before ++ m ∷ []))
+    ∙ ap (λ (l : List X). grown said before m (whose m) ++ (merged_from whose said (before ++ m ∷ []) ms ++ merged_from whose said l ns)) (append_assoc before (m ∷ []) ms)
+    ∙ sym (append_assoc (grown said before m (whose m)) (merged_from whose said (before ++ m ∷ []) ms) (merged_from whose said (before ++ (m ∷ ms)) ns))
 
 pub told_append : {V : Type 0} (x : Option ℕ) (xs ys : List (What V × Place)) → told x (xs ++ ys) ≡ told x xs ++ told x ys
 told_append {V} x xs ys = map-append (λ (e : What V × Place). record { at = e.1.at; half = e.1.half; source = x; what = e.0 }) xs ys
@@ -168,12 +167,12 @@ below_told x n k p [] all l = tt
 below_told x n k p (e ∷ xs) all l = ((let a = all.1 in omega arith), below_told x n k e.1 xs all.2 l)
 
 -- what grows is what is added
-pub grown_by : {X V : Type 0} → (events : ℕ → List X → List (What V × Place)) (before : List X) (m : X) (x : ℕ)
-    (more : List (What V × Place)) →
-    events x (before ++ m ∷ []) ≡ events x before ++ more → grown events before m (Some x) ≡ told (Some x) more
-grown_by {V = V} events before m x more e =
-    ap (λ (l : List (What V × Place)). told (Some x) (drop (length (events x before)) l)) e
-    ∙ ap (told (Some x)) (drop_at (events x before) more (length (events x before)) refl)
+pub grown_by : {X V : Type 0} → (said : Option ℕ → List X → List (What V × Place)) (before : List X) (m : X)
+    (x : Option ℕ) (more : List (What V × Place)) →
+    said x (before ++ m ∷ []) ≡ said x before ++ more → grown said before m x ≡ told x more
+grown_by {V = V} said before m x more e =
+    ap (λ (l : List (What V × Place)). told x (drop (length (said x before)) l)) e
+    ∙ ap (told x) (drop_at (said x before) more (length (said x before)) refl)
 
 -- the part of a source in what a source gives
 pub part_told_own : {V : Type 0} (x : Option ℕ) (xs : List (What V × Place)) → part x (told x xs) ≡ told x xs
@@ -220,195 +219,193 @@ from_told x n k p [] all l = tt
 from_told x n k p (e ∷ xs) all l =
     let a = all.0 in let b : k ≤ e.1.at = grind (arith, a) in (b, from_told x n k e.1 xs all.2 b)
 
-module _ {X V : Type 0} (Lies : ℕ → X → Type 0) (end : X → ℕ) (within : (n : ℕ) (m : X) → Lies n m → n ≤ end m)
-    (source : X → Option ℕ) (events : ℕ → List X → List (What V × Place))
-    (adds : AddsAlways Lies end source events) where
-  grown_is : (before : List X) (m : X) (x n : ℕ) (l : Lies n m) →
-      grown events before m (Some x) ≡ told (Some x) (adds x n before m l).more
-  grown_is before m x n l = grown_by events before m x (adds x n before m l).more (adds x n before m l).given
+-- what is said, with more that the port says before it
+abbrev pub with_first : {V : Type 0} → List (What V × Place) → (Option ℕ → List (What V × Place)) → Option ℕ →
+    List (What V × Place)
+with_first first said None = first ++ said None
+with_first first said (Some x) = said (Some x)
 
-  part_grown : (x n : ℕ) (before : List X) (m : X) (l : Lies n m) (s : Option ℕ) → source m ≡ s →
-      part (Some x) (grown events before m s) ≡ told (Some x) (adds x n before m l).more
-  part_grown x n before m l None e =
-      ap (told (Some x)) (sym ((adds x n before m l).own (λ k. (let q : None ≡ Some x = sym e ∙ k in cc))))
-  part_grown x n before m l (Some y) e = elim (same_or_not y x) [
-    | inl k ↦
-        subst (λ (z : ℕ). part (Some z) (grown events before m (Some y)) ≡ told (Some z) (adds z n before m l).more) k
-        (ap (part (Some y)) (grown_is before m y n l) ∙ part_told_own (Some y) (adds y n before m l).more)
-    | inr k ↦
-        ap (part (Some x)) (grown_is before m y n l)
-        ∙ part_told_other (Some x) (Some y) (adds y n before m l).more (λ e. k (let q = e in cc))
-        ∙ ap (told (Some x)) (sym ((adds x n before m l).own (λ q. k (let z : Some y ≡ Some x = sym e ∙ q in cc))))
-  ]
+-- where two say the same, a list is merged of both or of none
+pub merged_as : {V : Type 0} (old new : Option ℕ → List (What V × Place)) → ((x : Option ℕ) → old x ≡ new x) →
+    (es : List (Event V)) → IsMerged old es → IsMerged new es
+merged_as old new same es i = record { sorted = i.sorted; parts = λ x. i.parts x ∙ ap (told x) (same x) }
 
-  parts_from : (x n : ℕ) (ms before : List X) → InOrder Lies end n ms →
-      told (Some x) (events x before) ++ part (Some x) (merged_from source events before ms)
-      ≡ told (Some x) (events x (before ++ ms))
-  parts_from x n [] before r =
-      append-nil (told (Some x) (events x before))
-      ∙ ap (λ (l : List X). told (Some x) (events x l)) (sym (append-nil before))
-  parts_from x n (m ∷ ms) before r =
-      let a = adds x n before m r.0 in
-      let rest = merged_from source events (before ++ m ∷ []) ms in
-      ap (λ l. told (Some x) (events x before) ++ l) (part_append (Some x) (grown events before m (source m)) rest)
-      ∙ ap (λ l. told (Some x) (events x before) ++ (l ++ part (Some x) rest))
-      (part_grown x n before m r.0 (source m) refl)
-      ∙ sym (append_assoc (told (Some x) (events x before)) (told (Some x) a.more) (part (Some x) rest))
-      ∙ ap (λ l. l ++ part (Some x) rest)
-      (sym (told_append (Some x) (events x before) a.more) ∙ ap (told (Some x)) (sym a.given))
-      ∙ parts_from x (end m) ms (before ++ m ∷ []) r.1
-      ∙ ap (λ (l : List X). told (Some x) (events x l)) (append_assoc before (m ∷ []) ms)
+module _ {X V : Type 0} (Ahead : ℕ → List X → Type 0) (Lies : ℕ → X → Type 0) (end : X → ℕ)
+    (within : (n : ℕ) (m : X) → Lies n m → n ≤ end m) (whose : X → Option ℕ)
+    (said : Option ℕ → List X → List (What V × Place)) (adds : AddsAlways Ahead Lies end whose said)
+    (next : GoesOn Ahead Lies end) where
+  module _ (before : List X) (m : X) (n : ℕ) (a : Ahead n before) (l : Lies n m) where
+    abbrev more : Option ℕ → List (What V × Place)
+    more x = (adds x n before m a l).more
 
-  -- nothing of a part is the port's
-  no_port_grown : (n : ℕ) (before : List X) (m : X) (s : Option ℕ) → Lies n m → part None (grown events before m s) ≡ []
-  no_port_grown n before m None l = refl
-  no_port_grown n before m (Some x) l =
-      ap (part None) (grown_is before m x n l)
-      ∙ part_told_other None (Some x) (adds x n before m l).more (λ e. (let k = e in cc))
+    pub grown_is : (x : Option ℕ) → grown said before m x ≡ told x (more x)
+    grown_is x = grown_by said before m x (more x) (adds x n before m a l).given
 
-  no_port : (n : ℕ) (ms before : List X) → InOrder Lies end n ms → part None (merged_from source events before ms) ≡ []
-  no_port n [] before r = refl
-  no_port n (m ∷ ms) before r =
-      part_append None (grown events before m (source m)) (merged_from source events (before ++ m ∷ []) ms)
-      ∙ ap (λ l. l ++ part None (merged_from source events (before ++ m ∷ []) ms))
-      (no_port_grown n before m (source m) r.0)
-      ∙ no_port (end m) ms (before ++ m ∷ []) r.1
+    part_grown : (x s : Option ℕ) → whose m ≡ s → part x (grown said before m s) ≡ told x (more x)
+    part_grown x s e = elim (one_or_other s x) [
+      | inl k ↦
+          subst (λ (z : Option ℕ). part z (grown said before m s) ≡ told z (more z)) k
+          (ap (part s) (grown_is s) ∙ part_told_own s (more s))
+      | inr k ↦
+          ap (part x) (grown_is s) ∙ part_told_other x s (more s) k
+          ∙ ap (told x) (sym ((adds x n before m a l).own (λ q. k (sym e ∙ q))))
+    ]
 
-  -- places
-  sorted_grown : (before : List X) (m : X) (s : Option ℕ) (n : ℕ) (p : Place) (ys : List (Event V)) → Lies n m →
-      IsAtMost p (start_of n) → ((q : Place) → IsAtMost q (start_of (end m)) → SortedFrom q ys) →
-      SortedFrom p (grown events before m s ++ ys)
-  sorted_grown before m None n p ys r l next =
-      next p (at_most_trans p (start_of n) (start_of (end m)) l (start_le n (end m) (within n m r)))
-  sorted_grown before m (Some x) n p ys r l next =
-      subst (λ (g : List (Event V)). SortedFrom p (g ++ ys)) (sym (grown_is before m x n r))
-      (sorted_told (Some x) (end m) p (adds x n before m r).more ys
-      (all_weaker p (start_of n) (end m) (adds x n before m r).more l (adds x n before m r).all)
-      (at_most_trans p (start_of n) (start_of (end m)) l (start_le n (end m) (within n m r))) next)
+    -- places
+    sorted_grown : (s : Option ℕ) (p : Place) (ys : List (Event V)) → IsAtMost p (start_of n) →
+        ((q : Place) → IsAtMost q (start_of (end m)) → SortedFrom q ys) → SortedFrom p (grown said before m s ++ ys)
+    sorted_grown s p ys low rest =
+        subst (λ (g : List (Event V)). SortedFrom p (g ++ ys)) (sym (grown_is s))
+        (sorted_told s (end m) p (more s) ys
+        (all_weaker p (start_of n) (end m) (more s) low (adds s n before m a l).all)
+        (at_most_trans p (start_of n) (start_of (end m)) low (start_le n (end m) (within n m l))) rest)
 
-  pub sorted_from : (ms before : List X) (n : ℕ) (p : Place) → InOrder Lies end n ms → IsAtMost p (start_of n) →
-      SortedFrom p (merged_from source events before ms)
-  sorted_from [] before n p r l = tt
-  sorted_from (m ∷ ms) before n p r l =
-      sorted_grown before m (source m) n p (merged_from source events (before ++ m ∷ []) ms) r.0 l
-      (λ q k. sorted_from ms (before ++ m ∷ []) (end m) q r.1 k)
+    -- where events of a part are, and whose they are
+    in_grown : (e : Event V) (s : Option ℕ) → In e (grown said before m s) →
+        (n ≤ e.at) × (e.at < end m) × (e.source ≡ s)
+    in_grown e s i =
+        in_told e s (end m) (start_of n) (more s) (adds s n before m a l).all
+        (subst (λ (g : List (Event V)). In e g) (grown_is s) i)
 
-  -- where events of a part are, and whose they are
-  in_grown : (e : Event V) (before : List X) (m : X) (n : ℕ) → Lies n m → (s : Option ℕ) →
-      In e (grown events before m s) → (n ≤ e.at) × (e.at < end m) × (e.source ≡ s)
-  in_grown e before m n r None i = elim i [ ]
-  in_grown e before m n r (Some x) i =
-      in_told e (Some x) (end m) (start_of n) (adds x n before m r).more (adds x n before m r).all
-      (subst (λ (l : List (Event V)). In e l) (grown_is before m x n r) i)
+    from_grown : (s : Option ℕ) → From n (grown said before m s)
+    from_grown s =
+        subst (λ (g : List (Event V)). From n g) (sym (grown_is s))
+        (from_told s (end m) n (start_of n) (more s) (adds s n before m a l).all (let z : n ≤ n = omega arith in z))
 
-  in_from : (e : Event V) (ms before : List X) (n : ℕ) → InOrder Lies end n ms →
-      In e (merged_from source events before ms) → n ≤ e.at
-  in_from e [] before n r i = elim i [ ]
-  in_from e (m ∷ ms) before n r i =
-      elim (in_append e (grown events before m (source m)) (merged_from source events (before ++ m ∷ []) ms) i) [
-        | inl k ↦ (in_grown e before m n r.0 (source m) k).0
+    below_grown : (k : ℕ) (s : Option ℕ) → end m ≤ k → Below k (grown said before m s)
+    below_grown k s low =
+        subst (λ (g : List (Event V)). Below k g) (sym (grown_is s))
+        (below_told s (end m) k (start_of n) (more s) (adds s n before m a l).all low)
+
+  parts_from : (x : Option ℕ) (n : ℕ) (ms before : List X) → Ahead n before → InOrder Lies end n ms →
+      told x (said x before) ++ part x (merged_from whose said before ms) ≡ told x (said x (before ++ ms))
+  parts_from x n [] before a r =
+      append-nil (told x (said x before)) ∙ ap (λ (l : List X). told x (said x l)) (sym (append-nil before))
+  parts_from x n (m ∷ ms) before a r =
+      let b = adds x n before m a r.0 in
+      let rest = merged_from whose said (before ++ m ∷ []) ms in
+      ap (λ l. told x (said x before) ++ l) (part_append x (grown said before m (whose m)) rest)
+      ∙ ap (λ l. told x (said x before) ++ (l ++ part x rest)) (part_grown before m n a r.0 x (whose m) refl)
+      ∙ sym (append_assoc (told x (said x before)) (told x b.more) (part x rest))
+      ∙ ap (λ l. l ++ part x rest) (sym (told_append x (said x before) b.more) ∙ ap (told x) (sym b.given))
+      ∙ parts_from x (end m) ms (before ++ m ∷ []) (next n before m a r.0) r.1
+      ∙ ap (λ (l : List X). told x (said x l)) (append_assoc before (m ∷ []) ms)
+
+  pub sorted_from : (ms before : List X) (n : ℕ) (p : Place) → Ahead n before → InOrder Lies end n ms →
+      IsAtMost p (start_of n) → SortedFrom p (merged_from whose said before ms)
+  sorted_from [] before n p a r l = tt
+  sorted_from (m ∷ ms) before n p a r l =
+      sorted_grown before m n a r.0 (whose m) p (merged_from whose said (before ++ m ∷ []) ms) l
+      (λ q k. sorted_from ms (before ++ m ∷ []) (end m) q (next n before m a r.0) r.1 k)
+
+  in_from : (e : Event V) (ms before : List X) (n : ℕ) → Ahead n before → InOrder Lies end n ms →
+      In e (merged_from whose said before ms) → n ≤ e.at
+  in_from e [] before n a r i = elim i [ ]
+  in_from e (m ∷ ms) before n a r i =
+      elim (in_append e (grown said before m (whose m)) (merged_from whose said (before ++ m ∷ []) ms) i) [
+        | inl k ↦ (in_grown before m n a r.0 e (whose m) k).0
         | inr k ↦
-            (let a = in_from e ms (before ++ m ∷ []) (end m) r.1 k in let b = within n m r.0 in omega arith)
+            (let q = in_from e ms (before ++ m ∷ []) (end m) (next n before m a r.0) r.1 k in
+            let b = within n m r.0 in omega arith)
       ]
 
-  one_source : (ms before : List X) (n : ℕ) → InOrder Lies end n ms → OneSource (merged_from source events before ms)
-  one_source [] before n r e g i j h = elim i [ ]
-  one_source (m ∷ ms) before n r e g i j h =
-      let first = grown events before m (source m) in
-      let rest = merged_from source events (before ++ m ∷ []) ms in
+  one_source : (ms before : List X) (n : ℕ) → Ahead n before → InOrder Lies end n ms →
+      OneSource (merged_from whose said before ms)
+  one_source [] before n a r e g i j h = elim i [ ]
+  one_source (m ∷ ms) before n a r e g i j h =
+      let first = grown said before m (whose m) in
+      let rest = merged_from whose said (before ++ m ∷ []) ms in
+      let later = next n before m a r.0 in
       elim (in_append e first rest i) [
         | inl k ↦ elim (in_append g first rest j) [
-          | inl l ↦ (in_grown e before m n r.0 (source m) k).2 ∙ sym (in_grown g before m n r.0 (source m) l).2
+          | inl l ↦ (in_grown before m n a r.0 e (whose m) k).2 ∙ sym (in_grown before m n a r.0 g (whose m) l).2
           | inr l ↦
-              absurd (let a = (in_grown e before m n r.0 (source m) k).1 in
-              let b = in_from g ms (before ++ m ∷ []) (end m) r.1 l in omega arith)
+              absurd (let q = (in_grown before m n a r.0 e (whose m) k).1 in
+              let b = in_from g ms (before ++ m ∷ []) (end m) later r.1 l in omega arith)
         ]
         | inr k ↦ elim (in_append g first rest j) [
           | inl l ↦
-              absurd (let a = (in_grown g before m n r.0 (source m) l).1 in
-              let b = in_from e ms (before ++ m ∷ []) (end m) r.1 k in omega arith)
-          | inr l ↦ one_source ms (before ++ m ∷ []) (end m) r.1 e g k l h
+              absurd (let q = (in_grown before m n a r.0 g (whose m) l).1 in
+              let b = in_from e ms (before ++ m ∷ []) (end m) later r.1 k in omega arith)
+          | inr l ↦ one_source ms (before ++ m ∷ []) (end m) later r.1 e g k l h
         ]
       ]
 
-  -- The law: where the port's events come first, parts are in order after them, and nothing comes of nothing, the list
-  -- of both is merged, and no other is.
-  module _ (none : (x : ℕ) → events x [] ≡ []) (port : List (What V × Place)) (start : ℕ)
-      (first : AllIn (start_of 0) start port) (ms : List X) (order : InOrder Lies end start ms) where
+  -- The law: where these events of the port come first, parts are in order after them, and nothing is said of nothing,
+  -- the list of both is merged, and no other is.
+  module _ (none : (x : Option ℕ) → said x [] ≡ []) (first : List (What V × Place)) (start : ℕ)
+      (all : AllIn (start_of 0) start first) (ms : List X) (a : Ahead start [])
+      (order : InOrder Lies end start ms) where
+    abbrev merged : List (Event V)
+    merged = merged_from whose said [] ms
+
     abbrev whole : List (Event V)
-    whole = told None port ++ merged source events ms
+    whole = told None first ++ merged
+
+    abbrev all_said : Option ℕ → List (What V × Place)
+    all_said = with_first first (λ x. said x ms)
 
     one_of_both : OneSource whole
     one_of_both e g i j h =
-        elim (in_append e (told None port) (merged source events ms) i) [
-          | inl k ↦ elim (in_append g (told None port) (merged source events ms) j) [
+        elim (in_append e (told None first) merged i) [
+          | inl k ↦ elim (in_append g (told None first) merged j) [
             | inl l ↦
-                (in_told e None start (start_of 0) port first k).2
-                ∙ sym (in_told g None start (start_of 0) port first l).2
+                (in_told e None start (start_of 0) first all k).2
+                ∙ sym (in_told g None start (start_of 0) first all l).2
             | inr l ↦
-                absurd (let a = (in_told e None start (start_of 0) port first k).1 in
-                let b = in_from g ms [] start order l in omega arith)
+                absurd (let q = (in_told e None start (start_of 0) first all k).1 in
+                let b = in_from g ms [] start a order l in omega arith)
           ]
-          | inr k ↦ elim (in_append g (told None port) (merged source events ms) j) [
+          | inr k ↦ elim (in_append g (told None first) merged j) [
             | inl l ↦
-                absurd (let a = (in_told g None start (start_of 0) port first l).1 in
-                let b = in_from e ms [] start order k in omega arith)
-            | inr l ↦ one_source ms [] start order e g k l h
+                absurd (let q = (in_told g None start (start_of 0) first all l).1 in
+                let b = in_from e ms [] start a order k in omega arith)
+            | inr l ↦ one_source ms [] start a order e g k l h
           ]
         ]
 
-    pub is_merged : IsMerged port events ms whole
+    part_is : (x : Option ℕ) → part x merged ≡ told x (said x ms)
+    part_is x =
+        ap (λ (l : List (What V × Place)). told x l ++ part x merged) (sym (none x)) ∙ parts_from x start ms [] a order
+
+    whole_is : (x : Option ℕ) → part x whole ≡ told x (all_said x)
+    whole_is None =
+        part_append None (told None first) merged ∙ ap (λ l. l ++ part None merged) (part_told_own None first)
+        ∙ ap (λ l. told None first ++ l) (part_is None) ∙ sym (told_append None first (said None ms))
+    whole_is (Some x) =
+        part_append (Some x) (told None first) merged
+        ∙ ap (λ l. l ++ part (Some x) merged) (part_told_other (Some x) None first (λ e. (let k = e in cc)))
+        ∙ part_is (Some x)
+
+    pub is_merged : IsMerged all_said whole
     is_merged = record {
       sorted =
-          sorted_told None start (start_of 0) port (merged source events ms) first
-          (start_le 0 start (let z : 0 ≤ start = omega arith in z)) (λ q l. sorted_from ms [] start q order l);
-      of_port =
-          part_append None (told None port) (merged source events ms)
-          ∙ ap (λ l. l ++ part None (merged source events ms)) (part_told_own None port)
-          ∙ ap (λ l. told None port ++ l) (no_port start ms [] order) ∙ append-nil (told None port);
-      of_source = λ x.
-          part_append (Some x) (told None port) (merged source events ms)
-          ∙ ap (λ l. l ++ part (Some x) (merged source events ms))
-          (part_told_other (Some x) None port (λ e. (let k = e in cc)))
-          ∙ ap (λ (l : List (What V × Place)). told (Some x) l ++ part (Some x) (merged source events ms)) (sym (none x))
-          ∙ parts_from x start ms [] order;
+          sorted_told None start (start_of 0) first merged all
+          (start_le 0 start (let z : 0 ≤ start = omega arith in z)) (λ q l. sorted_from ms [] start q a order l);
+      parts = whole_is;
     }
 
-    same_parts : (es : List (Event V)) → IsMerged port events ms es → (x : Option ℕ) → part x whole ≡ part x es
-    same_parts es i None = is_merged.of_port ∙ sym i.of_port
-    same_parts es i (Some x) = is_merged.of_source x ∙ sym (i.of_source x)
-
-    pub only_merged : (es : List (Event V)) → IsMerged port events ms es → es ≡ whole
-    only_merged es i = sym (only whole es _ _ is_merged.sorted i.sorted one_of_both (same_parts es i))
+    pub only_merged : (es : List (Event V)) → IsMerged all_said es → es ≡ whole
+    only_merged es i =
+        sym (only whole es _ _ is_merged.sorted i.sorted one_of_both (λ x. whole_is x ∙ sym (i.parts x)))
 
   -- where the events of parts are
-  from_grown : (before : List X) (m : X) (n : ℕ) (s : Option ℕ) → Lies n m → From n (grown events before m s)
-  from_grown before m n None r = tt
-  from_grown before m n (Some x) r =
-      subst (λ (g : List (Event V)). From n g) (sym (grown_is before m x n r))
-      (from_told (Some x) (end m) n (start_of n) (adds x n before m r).more (adds x n before m r).all
-      (let z : n ≤ n = omega arith in z))
-
-  pub from : (ms before : List X) (n : ℕ) → InOrder Lies end n ms → From n (merged_from source events before ms)
-  from [] before n r = tt
-  from (m ∷ ms) before n r =
-      from_append n (grown events before m (source m)) _ (from_grown before m n (source m) r.0)
-      (from_weaker (end m) n _ (within n m r.0) (from ms (before ++ m ∷ []) (end m) r.1))
-
-  below_grown : (before : List X) (m : X) (n k : ℕ) (s : Option ℕ) → Lies n m → end m ≤ k →
-      Below k (grown events before m s)
-  below_grown before m n k None r l = tt
-  below_grown before m n k (Some x) r l =
-      subst (λ (g : List (Event V)). Below k g) (sym (grown_is before m x n r))
-      (below_told (Some x) (end m) k (start_of n) (adds x n before m r).more (adds x n before m r).all l)
+  pub from : (ms before : List X) (n : ℕ) → Ahead n before → InOrder Lies end n ms →
+      From n (merged_from whose said before ms)
+  from [] before n a r = tt
+  from (m ∷ ms) before n a r =
+      from_append n (grown said before m (whose m)) _ (from_grown before m n a r.0 (whose m))
+      (from_weaker (end m) n _ (within n m r.0) (from ms (before ++ m ∷ []) (end m) (next n before m a r.0) r.1))
 
   pub between_end : (ms : List X) (n k : ℕ) → Between Lies end n k ms → n ≤ k
   between_end [] n k r = r
   between_end (m ∷ ms) n k r =
       (let a = within n m r.0 in let b = between_end ms (end m) k r.1 in omega arith)
 
-  pub below : (ms before : List X) (n k : ℕ) → Between Lies end n k ms → Below k (merged_from source events before ms)
-  below [] before n k r = tt
-  below (m ∷ ms) before n k r =
-      below_append k (grown events before m (source m)) _
-      (below_grown before m n k (source m) r.0 (between_end ms (end m) k r.1)) (below ms (before ++ m ∷ []) (end m) k r.1)
+  pub below : (ms before : List X) (n k : ℕ) → Ahead n before → Between Lies end n k ms →
+      Below k (merged_from whose said before ms)
+  below [] before n k a r = tt
+  below (m ∷ ms) before n k a r =
+      below_append k (grown said before m (whose m)) _
+      (below_grown before m n a r.0 k (whose m) (between_end ms (end m) k r.1))
+      (below ms (before ++ m ∷ []) (end m) k (next n before m a r.0) r.1)

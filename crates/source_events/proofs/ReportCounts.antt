@@ -1,7 +1,7 @@
 -- Where no source is mapped, a report has as many events of a source as its frames have items of it.
 use Rattle.std.specs.Prelude.{◌&&◌, ◌==◌}
-use Rattle.std.proofs.Common.{◌≡◌, ℕ, suc, ◌+◌, List, [], ◌∷◌, ◌++◌, length, filter, flat_map, refl, sym, ◌∙◌, ap}
-use Rattle.std.proofs.Common.{subst, arith, Option, None, Some, Bool, true, false, cond}
+use Rattle.std.proofs.Common.{◌≡◌, ℕ, ◌+◌, List, [], ◌∷◌, ◌++◌, length, refl, sym, ◌∙◌, ap}
+use Rattle.std.proofs.Common.{arith, Option, None, Some, Bool, true, false, cond}
 use Rattle.std.specs.List.{count_by}
 use Rattle.std.proofs.lemmas.List.Sums.{sum_by-cons}
 use Rattle.trace_values.specs.declared.cell.Cell.{Cell}
@@ -80,7 +80,7 @@ items_captured mode u lo hi x rise =
     let merged = (capture_merged Packet [] tt mode u lo hi rise (capture_events [] mode u)).1 refl in
     let runs = runs_in (port_reading mode u) in
     counted_in_part x (capture_events [] mode u)
-    ∙ ap (λ (l : List (Event Packet)). count_by (λ (f : Event Packet). is_item f.what) l) (merged.of_source x)
+    ∙ ap (λ (l : List (Event Packet)). count_by (λ (f : Event Packet). is_item f.what) l) (merged.parts (Some x))
     ∙ all_counted (Some x) (raws x runs) (raw_items x runs)
     ∙ frames_given Packet x (port_reading mode u).frames (frames_have_runs mode u)
 

@@ -4,9 +4,9 @@ use Rattle.trace_values.specs.declared.cell.Cell.{Cell}
 use Rattle.trace_values.specs.declared.fault.Reason.{Reason}
 use Rattle.trace_values.specs.Placed.{Place, Placed}
 use Rattle.source_events.specs.Runs.{id_of, IsRunFrom, end_of, list_of}
-use Rattle.source_events.specs.Merge.{InOrder, merged_from, cut}
+use Rattle.source_events.specs.Merge.{InOrder, merged_from, of_sources, cut}
 use Rattle.source_events.specs.Report.{Mapped, IsLawful, AreLawful, events, lesser, is_less, of_source, least_fault, all_events, reported}
-use Rattle.source_events.proofs.Family.{of_cases, list_own, list_other, within_run, run_fault, adds}
+use Rattle.source_events.proofs.Family.{of_cases, list_own, list_other, within_run, run_fault, Anywhere, anywhere, adds}
 use Rattle.source_events.proofs.Running.{end_within}
 use Rattle.source_events.proofs.Merges.{merged_append, cut_below, cut_behind, cut_append, below, from, from_weaker, below_weaker}
 use Rattle.source_events.proofs.Placing.{RunsBetween}
@@ -103,16 +103,16 @@ module _ {V : Type 0} (runs more : List (List Cell)) (n : ℕ) (b : RunsBetween 
   -- what is cut stays, and what is not grows: for a fault below the end of the runs, and for one from there on
   pub cut_stays : (ss : List (Mapped V)) → AreLawful ss → (f : Full) → f.0.at < n → cut (Some f) (all_events ss (runs ++ more)) ≡ cut (Some f) (all_events ss runs)
   cut_stays ss law f l =
-      ap (λ z. cut (Some f) z) (merged_append id_of (events ss) runs more []) ∙ cut_append f (all_events ss runs) (merged_from id_of (events ss) runs more)
-      ∙ ap (λ z. cut (Some f) (all_events ss runs) ++ z) (cut_behind f (merged_from id_of (events ss) runs more)
-      (from_weaker n (f.0.at + 1) _ (omega arith) (from IsRunFrom end_of end_within id_of (events ss) (adds ss law) more runs n r)))
+      ap (λ z. cut (Some f) z) (merged_append id_of (of_sources (events ss)) runs more []) ∙ cut_append f (all_events ss runs) (merged_from id_of (of_sources (events ss)) runs more)
+      ∙ ap (λ z. cut (Some f) (all_events ss runs) ++ z) (cut_behind f (merged_from id_of (of_sources (events ss)) runs more)
+      (from_weaker n (f.0.at + 1) _ (omega arith) (from Anywhere IsRunFrom end_of end_within id_of (of_sources (events ss)) (adds ss law) anywhere more runs n tt r)))
       ∙ append-nil (cut (Some f) (all_events ss runs))
 
-  pub cut_grows : (ss : List (Mapped V)) → AreLawful ss → (o : Option Full) → Later n o → cut o (all_events ss (runs ++ more)) ≡ all_events ss runs ++ cut o (merged_from id_of (events ss) runs more)
-  cut_grows ss law None l = merged_append id_of (events ss) runs more []
+  pub cut_grows : (ss : List (Mapped V)) → AreLawful ss → (o : Option Full) → Later n o → cut o (all_events ss (runs ++ more)) ≡ all_events ss runs ++ cut o (merged_from id_of (of_sources (events ss)) runs more)
+  cut_grows ss law None l = merged_append id_of (of_sources (events ss)) runs more []
   cut_grows ss law (Some f) l =
-      ap (λ z. cut (Some f) z) (merged_append id_of (events ss) runs more []) ∙ cut_append f (all_events ss runs) (merged_from id_of (events ss) runs more)
-      ∙ ap (λ z. z ++ cut (Some f) (merged_from id_of (events ss) runs more)) (cut_below f (all_events ss runs) (below_weaker n f.0.at _ l (below IsRunFrom end_of end_within id_of (events ss) (adds ss law) runs [] 0 n b)))
+      ap (λ z. cut (Some f) z) (merged_append id_of (of_sources (events ss)) runs more []) ∙ cut_append f (all_events ss runs) (merged_from id_of (of_sources (events ss)) runs more)
+      ∙ ap (λ z. z ++ cut (Some f) (merged_from id_of (of_sources (events ss)) runs more)) (cut_below f (all_events ss runs) (below_weaker n f.0.at _ l (below Anywhere IsRunFrom end_of end_within id_of (of_sources (events ss)) (adds ss law) anywhere runs [] 0 n tt b)))
 
   pub report_stays : (ss : List (Mapped V)) → AreLawful ss → (f : Full) → least_fault ss runs ≡ Some f → reported ss (runs ++ more) ≡ reported ss runs
   report_stays ss law f e =

@@ -1,4 +1,4 @@
--- Events of many sources in one list, by what each part of the capture adds to the events of its source.
+-- Events of the port and of all sources in one list: part by part of a capture, what its source or the port says more.
 use Rattle.std.specs.Prelude.{◌≡◌, ℕ, ◌<◌, ◌≤◌, List, [], ◌∷◌, ◌++◌, Bool, true, false, Option, None, Some, length, map}
 use Rattle.std.specs.Prelude.{drop}
 use Rattle.std.specs.Prelude.{filter, ◌==◌, ◌&&◌, ◌||◌, nat_lt, ◌⊎◌}
@@ -14,20 +14,20 @@ told source given = map (λ e. record { at = e.1.at; half = e.1.half; source = s
 abbrev pub place_of : {V : Type 0} → Event V → Place
 place_of e = record { at = e.at; half = e.half }
 
--- what one more part adds to the events of its source, if it has one
-abbrev pub grown : {X V : Type 0} → (ℕ → List X → List (What V × Place)) → List X → X → Option ℕ → List (Event V)
-grown events before m None = []
-grown events before m (Some x) = told (Some x) (drop (length (events x before)) (events x (before ++ m ∷ [])))
+-- what one more part adds: what its source, or the port, says more with it
+abbrev pub grown : {X V : Type 0} → (Option ℕ → List X → List (What V × Place)) → List X → X → Option ℕ → List (Event V)
+grown said before m x = told x (drop (length (said x before)) (said x (before ++ m ∷ [])))
 
--- part by part
-abbrev pub merged_from : {X V : Type 0} → (X → Option ℕ) → (ℕ → List X → List (What V × Place)) → List X →
+-- part by part, after others
+abbrev pub merged_from : {X V : Type 0} → (X → Option ℕ) → (Option ℕ → List X → List (What V × Place)) → List X →
     List X → List (Event V)
-merged_from source events before [] = []
-merged_from source events before (m ∷ ms) =
-    grown events before m (source m) ++ merged_from source events (before ++ m ∷ []) ms
+merged_from whose said before [] = []
+merged_from whose said before (m ∷ ms) = grown said before m (whose m) ++ merged_from whose said (before ++ m ∷ []) ms
 
-abbrev pub merged : {X V : Type 0} → (X → Option ℕ) → (ℕ → List X → List (What V × Place)) → List X → List (Event V)
-merged source events ms = merged_from source events [] ms
+-- of parts in which the port says nothing
+abbrev pub of_sources : {X W : Type 0} → (ℕ → List X → List W) → Option ℕ → List X → List W
+of_sources events None ms = []
+of_sources events (Some x) ms = events x ms
 
 -- whether an event is of a source, or of the port
 abbrev pub is_of : Option ℕ → Option ℕ → Bool
@@ -68,13 +68,10 @@ abbrev pub AllIn : {W : Type 0} → Place → ℕ → List (W × Place) → Type
 AllIn p n [] = Unit {0}
 AllIn p n (x ∷ xs) = IsAtMost p x.1 × (x.1.at < n) × AllIn x.1 n xs
 
--- The list is sorted by place; its part of the port is what the port gives, and its part of each source is what that
--- source gives.
-pub record IsMerged {X V : Type 0} (port : List (What V × Place)) (events : ℕ → List X → List (What V × Place))
-    (ms : List X) (es : List (Event V)) : Type 0 where
+-- The list is sorted by place, and its part of the port, and of each source, is what that one says.
+pub record IsMerged {V : Type 0} (said : Option ℕ → List (What V × Place)) (es : List (Event V)) : Type 0 where
   pub sorted : IsSorted es
-  pub of_port : part None es ≡ told None port
-  pub of_source : (x : ℕ) → part (Some x) es ≡ told (Some x) (events x ms)
+  pub parts : (x : Option ℕ) → part x es ≡ told x (said x)
 
 -- an event before a place
 abbrev pub is_before : {V : Type 0} → Place → Event V → Bool

@@ -2,7 +2,6 @@
 use Rattle.std.specs.Prelude.{◌≡◌, ℕ, List, [], ◌∷◌, ◌++◌, Bool, true, false, ◌==◌, ◌&&◌, ◌||◌, nat_lt, Option, None}
 use Rattle.std.specs.Prelude.{Some}
 use Rattle.std.specs.Prelude.{is_none, if◌then◌else◌, flat_map, map}
-use Rattle.std.specs.Option.{option_map}
 use Rattle.trace_values.specs.declared.cell.Cell.{Cell}
 use Rattle.trace_values.specs.declared.fault.Reason.{Reason}
 use Rattle.trace_values.specs.Placed.{Place, Placed, byte_at}
@@ -11,7 +10,7 @@ use Rattle.frame_grammar.specs.Port.{PortItem}
 use Rattle.frame_grammar.specs.Reading.{is_source}
 use Rattle.trace_values.specs.declared.reading_modes.FramesMode.{FramesMode}
 use Rattle.trace_values.specs.declared.reading_modes.FramesMode.TheVariants.{Hunt, Aligned, Bare}
-use Rattle.deformatter.specs.Reading.{PortStream, port_stream}
+use Rattle.deformatter.specs.Reading.{port_stream}
 use Rattle.deformatter.specs.declared.step.PortStep.{PortStep}
 use Rattle.deformatter.specs.declared.step.PortStep.TheVariants.{Locked as PortLocked}
 use Rattle.deformatter.specs.PortReading.{PortReading, port_reading}
@@ -20,7 +19,7 @@ use Rattle.source_events.specs.declared.event.Stop.{Stop}
 use Rattle.source_events.specs.declared.event.What.{What}
 use Rattle.source_events.specs.declared.event.What.TheVariants.{Locked, Packet, Raw, Trigger}
 use Rattle.source_events.specs.Runs.{id_of, bytes_of, last_at, list_of, all_runs}
-use Rattle.source_events.specs.Merge.{told, merged, cut}
+use Rattle.source_events.specs.Merge.{told, merged_from, of_sources, cut}
 
 -- a mapped source: its ID, and what its list of bytes reads as
 pub record Mapped (V : Type 0) : Type 0 where
@@ -77,7 +76,7 @@ least_fault (s ∷ ss) runs =
 
 -- all events of the sources in these runs, in order, and those before their least fault
 abbrev pub all_events : {V : Type 0} → List (Mapped V) → List (List Cell) → List (Event V)
-all_events ss runs = merged id_of (events ss) runs
+all_events ss runs = merged_from id_of (of_sources (events ss)) [] runs
 
 abbrev pub reported : {V : Type 0} → List (Mapped V) → List (List Cell) → List (Event V)
 reported ss runs = cut (least_fault ss runs) (all_events ss runs)
@@ -109,6 +108,11 @@ stop_in ss r = lesser (of_source None r.fault) (least_fault ss (runs_in r))
 -- all events of a capture's bytes, in order
 abbrev pub capture_events : {V : Type 0} → List (Mapped V) → FramesMode → List Placed → List (Event V)
 capture_events ss mode u = told None (port_events mode u) ++ all_events ss (runs_in (port_reading mode u))
+
+-- what the port gives in a capture's bytes, and what each source gives
+abbrev pub given_in : {V : Type 0} → List (Mapped V) → FramesMode → List Placed → Option ℕ → List (What V × Place)
+given_in ss mode u None = port_events mode u
+given_in ss mode u (Some x) = events ss x (runs_in (port_reading mode u))
 
 -- The events of the report: those before the fault.
 abbrev pub report : {V : Type 0} → List (Mapped V) → FramesMode → List Placed → List (Event V)

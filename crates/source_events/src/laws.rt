@@ -13,8 +13,7 @@ ghost use Rattle.deformatter.specs.Rising.{BytesRise};
 ghost use Rattle.source_events.specs.declared.event.Event.{Event};
 ghost use Rattle.source_events.specs.Runs.{runs_of, list_of, AreWhole};
 ghost use Rattle.source_events.specs.Merge.{IsMerged};
-ghost use Rattle.source_events.specs.Report.{Mapped, AreLawful, events, port_events, runs_in, stop_in, capture_events};
-ghost use Rattle.source_events.specs.Report.{report};
+ghost use Rattle.source_events.specs.Report.{Mapped, AreLawful, capture_events, given_in, report, runs_in, stop_in};
 ghost use Rattle.source_counts.specs.Counts.{items_of};
 ghost use Rattle.source_events.specs.Tails.{items_in};
 ghost use Rattle.source_events.specs.declared.plan.Plan.{Plan};
@@ -26,13 +25,13 @@ ghost use Rattle.source_events.specs.Plan.{sources_by};
 pub fn merged_law()
     ensures { (ss : List (Mapped Packet)) → AreLawful ss → (mode : FramesMode) (u : List Placed) (lo hi : ℕ) →
         BytesRise lo hi u → (es : List (Event Packet)) →
-        IsMerged (port_events mode u) (events ss) (runs_in (port_reading mode u)) es ↔ (es ≡ capture_events ss mode u) }
+        IsMerged (given_in ss mode u) es ↔ (es ≡ capture_events ss mode u) }
 {}
 
 /// The same of what a plan maps: its report has no other order, and no other events.
 pub fn plan_law()
     ensures { (plan : Plan) (u : List Placed) (lo hi : ℕ) → BytesRise lo hi u → (es : List (Event Packet)) →
-        IsMerged (port_events plan.frames u) (events (sources_by plan)) (runs_in (port_reading plan.frames u)) es ↔
+        IsMerged (given_in (sources_by plan) plan.frames u) es ↔
         (es ≡ capture_events (sources_by plan) plan.frames u) }
 {}
 

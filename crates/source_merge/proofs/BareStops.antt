@@ -1,6 +1,6 @@
 -- Where a capture with no formatter stops: with the byte of its first fault.
 use Rattle.std.proofs.Common.{◌≡◌, ◌∙◌, ℕ, suc, ◌+◌, ◌<◌, ◌≤◌, List, [], ◌∷◌, ◌++◌, length, take, sym, ap, subst}
-use Rattle.std.proofs.Common.{append_assoc, append-nil, Option, None, Some, true, refl, arith}
+use Rattle.std.proofs.Common.{append_assoc, append-nil, Option, None, Some, true, false, refl, arith}
 use Rattle.std.specs.Prelude.{Result, Ok, Err}
 use Rattle.trace_values.specs.declared.fault.Reason.{Reason}
 use Rattle.trace_values.specs.declared.reading_modes.FramesMode.{FramesMode}
@@ -14,16 +14,18 @@ use Rattle.source_events.specs.declared.packet.Packet.{Packet}
 use Rattle.source_events.specs.declared.plan.Plan.{Plan}
 use Rattle.source_events.specs.Merge.{Below, From, place_of, start_of, told}
 use Rattle.source_events.specs.Plan.{is_sound}
-use Rattle.source_events.proofs.Merges.{below_told, from_told}
+use Rattle.source_events.proofs.Merges.{below_told, from_told, grown_by}
 use Rattle.stretch_readings.specs.declared.heard.Heard.{Heard}
 use Rattle.recovering_machines.specs.Hearing.{as_strict}
 use Rattle.recovery_report.specs.Port.{recovered}
-use Rattle.recovery_report.specs.Report.{Part, Run, added, parts_in, report, report_from}
+use Rattle.recovery_report.specs.Report.{Part, Run, added, parts_in, report, report_from, said_by, whose}
+use Rattle.recovery_report.proofs.Nearing.{parts_below}
 use Rattle.recovery_report.proofs.PartLaws.{growing}
+use Rattle.recovery_report.proofs.Parting.{parts_placed}
 use Rattle.recovery_engine.proofs.Feeding.{bare_more}
 use Rattle.recovery_engine.proofs.Rising.{rise_block}
 use Rattle.recovery_laws.specs.Strict.{first_by, first_fault}
-use Rattle.recovery_laws.proofs.Ordering.{added_is}
+use Rattle.recovery_laws.proofs.Adding.{adds}
 use Rattle.source_merge.specs.Answering.{fault_of, report_of}
 use Rattle.source_merge.proofs.Growing.{grows, stays}
 
@@ -68,15 +70,17 @@ module _ (plan : Plan) (sound : is_sound plan ≡ true) (bare : plan.frames ≡ 
       let parts : parts_in (recovered plan.frames (u ++ b ∷ [])) ≡ ps ++ m ∷ [] =
       subst (λ (k : FramesMode). parts_in (recovered k (u ++ b ∷ [])) ≡ parts_in (recovered k u) ++ m ∷ []) (sym bare)
       (bare_more (b ∷ []) u) in
-      let grew : report plan (u ++ b ∷ []) ≡ report plan u ++ added plan ps m =
-      ap (report_from plan []) parts ∙ growing plan ps m in
-      let k = grows plan sound u (u ++ b ∷ []) at (at + 1) (added plan ps m) r (rise_block u at (byte ∷ []) r) grew
-      none in
-      let a = added_is plan at ps m ((omega arith), tt) in
-      let w = within (told a.who a.more) at (at + 1) f
-      (from_told a.who (at + 1) at (start_of at) a.more a.all (omega arith))
-      (below_told a.who (at + 1) (at + 1) (start_of at) a.more a.all (omega arith))
-      (ap first_fault (sym a.is) ∙ sym k.1 ∙ e) in
+      let grew : report plan (u ++ b ∷ []) ≡ report plan u ++ added false plan ps m =
+      ap (report_from false plan []) parts ∙ growing false plan ps m in
+      let k = grows plan sound u (u ++ b ∷ []) at (at + 1) (added false plan ps m) r (rise_block u at (byte ∷ []) r)
+      grew none in
+      let own = whose m in
+      let a = adds false plan own at ps m (parts_below plan ps at (parts_placed plan.frames u 0 at r))
+      ((omega arith), tt) in
+      let w = within (told own a.more) at (at + 1) f
+      (from_told own (at + 1) at (start_of at) a.more a.all (omega arith))
+      (below_told own (at + 1) (at + 1) (start_of at) a.more a.all (omega arith))
+      (ap first_fault (sym (grown_by (said_by false plan) ps m own a.more a.given)) ∙ sym k.1 ∙ e) in
       (let x = w.0 in let y = w.1 in omega (arith, x, y))
 
   pub stops : (xs : List ℕ) (u : List Placed) (at : ℕ) (f : Full) → BytesRise 0 at u → fault_of plan u ≡ None →

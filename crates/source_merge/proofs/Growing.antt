@@ -1,6 +1,6 @@
 -- How the report up to the first fault grows with more bytes.
 use Rattle.std.proofs.Common.{◌≡◌, ◌∙◌, ℕ, ◌+◌, List, [], ◌∷◌, ◌++◌, length, sym, ap, refl}
-use Rattle.std.proofs.Common.{append_assoc, append-nil, Option, None, Some, true}
+use Rattle.std.proofs.Common.{append_assoc, append-nil, Option, None, Some, true, false}
 use Rattle.std.proofs.lemmas.List.{append_cancel_left}
 use Rattle.trace_values.specs.declared.fault.Reason.{Reason}
 use Rattle.trace_values.specs.Placed.{Place, Placed, byte_at, placed_from}
@@ -44,8 +44,8 @@ pub grown : (plan : Plan) (u : List Placed) (at : ℕ) (xs : List ℕ) → (es :
     (report plan (u ++ placed_from at xs) ≡ report plan u ++ es)
 grown plan u at xs =
     let m = with_bytes plan.frames u at xs in (
-      report_from plan (parts_of plan u) m.0,
-      ap (report_from plan []) m.1 ∙ report_append plan (parts_of plan u) m.0 [],
+      report_from false plan (parts_of plan u) m.0,
+      ap (report_from false plan []) m.1 ∙ report_append false plan (parts_of plan u) m.0 [],
     )
 
 module _ (plan : Plan) (sound : is_sound plan ≡ true) where
@@ -80,7 +80,7 @@ module _ (plan : Plan) (sound : is_sound plan ≡ true) where
   same_parts : (u v : List Placed) (m n : ℕ) → BytesRise 0 m u → BytesRise 0 n v → parts_of plan v ≡ parts_of plan u →
       (report_of plan v ≡ report_of plan u) × (fault_of plan v ≡ fault_of plan u)
   same_parts u v m n r s e =
-      let k : report plan v ≡ report plan u = ap (report_from plan []) e in
+      let k : report plan v ≡ report plan u = ap (report_from false plan []) e in
       let old = strict u m r in
       let new = strict v n s in
       (new.events ∙ ap upto k ∙ sym old.events, new.fault ∙ ap first_fault k ∙ sym old.fault)

@@ -2,7 +2,7 @@ use Rattle.recovery_report.proofs.PartLaws as laws
 use Rattle.recovery_report.proofs.laws.source_law.Goals as goal
 
 pub returns-clause-own : goal.returns-clause-own
-returns-clause-own c = λ guesses plan kind x parts run k i. laws.own_with guesses plan kind x parts run k i
+returns-clause-own c = λ guesses plan kind x parts run k i. laws.own guesses plan kind x parts run k i
 
 pub returns-clause-other : goal.returns-clause-other
 returns-clause-other c = λ plan kind x parts run e. laws.other plan kind x parts run e
