@@ -24,7 +24,7 @@ use Rattle.std.specs.Option.{ForSome}
 use Rattle.std.proofs.lemmas.Bool.Decides.{nat_tests}
 use Rattle.std.proofs.lemmas.Fmt.{decimal_digit}
 use Rattle.script_laws.specs.Names.{Two, Four, ItmPacket, IsInRange, Enter, DwtItem, bits_of, StpItem, IsProperItem}
-use Rattle.script_laws.specs.Names.{hex_digits, hardware_text, known_text, place_text, width_text, datum_text}
+use Rattle.script_laws.specs.Names.{hex_digits, hardware_text, known_text, place_text, width_text}
 use Rattle.script_laws.specs.Names.{mark_text, stamp_text, stp_text, Shape, ItmShape, DwtShape, StpShape, Item, Itm}
 use Rattle.script_laws.specs.Names.{Dwt, Stp, Raw, IsProper, first_bits, second_bits, packet, Stamp, Natural, Gray}
 use Rattle.script_laws.specs.Names.{text_of, IsSaidItm, IsSaidStp, IsSayable, Known, Fits, Values, AllFit, fields_in}
@@ -346,7 +346,7 @@ place_joined : (place : Place) (rest : List ℕ) → place_text place ++ (32 ∷
     ++ (32 ∷ (known_text place.channel ++ (32 ∷ rest)))
 place_joined place rest = append_assoc (known_text place.master) (32 ∷ known_text place.channel) (32 ∷ rest)
 
-datum_joined : (width : Width) (value : ℕ) (rest : List ℕ) → datum_text width value ++ (32 ∷ rest) ≡ width_text width
+datum_joined : (width : Width) (value : ℕ) (rest : List ℕ) → (width_text width ++ (32 ∷ hex_digits (bits_of width / 4) value)) ++ (32 ∷ rest) ≡ width_text width
     ++ (32 ∷ (hex_digits (bits_of width / 4) value ++ (32 ∷ rest)))
 datum_joined width value rest = append_assoc (width_text width) (32 ∷ hex_digits (bits_of width / 4) value) (32 ∷ rest)
 

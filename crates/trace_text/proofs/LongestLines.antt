@@ -49,7 +49,7 @@ use Rattle.trace_text.specs.HexDigits.{hex_digits}
 use Rattle.trace_text.specs.StpText.{known_text, width_text, mark_text, stamp_text, stp_text}
 use Rattle.trace_text.specs.declared.remark.Remark.{Remark}
 use Rattle.trace_text.specs.declared.remark.Remark.TheVariants.{None as NoRemark, Clock, Time}
-use Rattle.trace_text.specs.LineText.{doubted, half_text, source_text, what_text, remark_text, event_line, itm_event, stp_event, raw_event}
+use Rattle.trace_text.specs.LineText.{doubted, source_text, what_text, remark_text, event_line, itm_event, stp_event, raw_event}
 use Rattle.trace_text.specs.Printable.{IsProperWhat, IsNone, SuitsPacket, Suits, HasSource, IsPrintable}
 use Rattle.trace_text.specs.FaultText.{fault_line}
 use Rattle.trace_text.specs.Lengths.{HasDigits, IsShortWhat, IsShortSource, IsShortRemark, IsShort, IsShortFault}
@@ -188,7 +188,7 @@ rest (Said (Stp i)) (Some id) r p u e a b c = omega (arith, stp i p, nothing r u
 rest (Raw bytes) s r p u e a b c = omega (arith, source s b, length-encode_with lower_digits bytes, nothing r u)
 rest (Trigger byte) s r p u e a b c = omega (arith, source s b, code byte, nothing r u)
 
-half : (s : Bool) (h : ℕ) → HasDigits 3 h → length (half_text s h) ≤ 4
+half : (s : Bool) (h : ℕ) → HasDigits 3 h → length (if s then codes "." ++ decimal h else []) ≤ 4
 half s h l = grind arith
 
 -- the line of an event
