@@ -51,7 +51,7 @@ use Rattle.source_events.specs.Merge.{place_of}
 use Rattle.trace_text.specs.FaultText.{fault_line}
 use Rattle.trace_text.specs.HardwareText.{change_text, hardware_text}
 use Rattle.trace_text.specs.HexDigits.{hex_digits}
-use Rattle.trace_text.specs.ItemText.{bits_text, flag_text, item_text, lateness_text, owner_text}
+use Rattle.trace_text.specs.ItemText.{flag_text, item_text, lateness_text}
 use Rattle.trace_text.specs.LineText.{at_text, event_line, source_text, what_text}
 use Rattle.trace_text.specs.StpText.{known_text, mark_text, place_text, stamp_text, stp_text, width_text}
 use Rattle.trace_text.specs.Values.{value_text}
@@ -191,11 +191,11 @@ flag_plain : (b : Bool) → Plain (flag_text b)
 flag_plain true = record { is = refl }
 flag_plain false = record { is = refl }
 
-bits_plain : (b : Bool) → Plain (bits_text b)
+bits_plain : (wide : Bool) → Plain (if wide then codes "64" else codes "48")
 bits_plain true = record { is = refl }
 bits_plain false = record { is = refl }
 
-owner_plain : (b : Bool) → Plain (owner_text b)
+owner_plain : (dwt : Bool) → Plain (if dwt then codes "dwt" else codes "itm")
 owner_plain true = record { is = refl }
 owner_plain false = record { is = refl }
 
@@ -240,9 +240,9 @@ item_plain (GlobalFirst len value change wrap) =
     (join (decimal value) _ (number value) (word (codes " ") _ refl (join (flag_text change) _ (flag_plain change)
     (word (codes " ") _ refl (flag_plain wrap)))))))
 item_plain (GlobalSecond wide value) =
-    word (codes "global2 ") _ refl (join (bits_text wide) _ (bits_plain wide) (word (codes " ") _ refl (number value)))
+    word (codes "global2 ") _ refl (join (if wide then codes "64" else codes "48") _ (bits_plain wide) (word (codes " ") _ refl (number value)))
 item_plain (Extension dwt value) =
-    word (codes "ext ") _ refl (join (owner_text dwt) _ (owner_plain dwt)
+    word (codes "ext ") _ refl (join (if dwt then codes "dwt" else codes "itm") _ (owner_plain dwt)
     (word (codes " ") _ refl (hex (to_be_bytes w32 value))))
 
 -- items of a system trace

@@ -1,6 +1,6 @@
 -- The items of the table: the shape and the values of each, and that its row makes it of them, and no other.
 use Rattle.std.proofs.Common.{◌≡◌, ℕ, zero, suc, ◌-◌, ◌*◌, ◌/◌, ◌%◌, ◌<◌, ◌≤◌, ◌^◌, List, [], ◌∷◌, ◌++◌, refl, sym, ◌∙◌}
-use Rattle.std.proofs.Common.{ap, arith, append_assoc, Bool, true, false, Option, Some, decimal, codes, ◌==◌, nat_le}
+use Rattle.std.proofs.Common.{ap, arith, append_assoc, Bool, true, false, Option, Some, decimal, codes, ◌==◌, nat_le, if◌then◌else◌}
 use Rattle.std.proofs.Common.{IsSome, rules}
 use Rattle.std.specs.Int.{to_be_bytes, w16, w32}
 use Rattle.hex.specs.Hex.{encode_lower}
@@ -13,7 +13,7 @@ use Rattle.stp_grammar.specs.declared.packet.Width.{Width}
 use Rattle.stp_grammar.specs.declared.item.Place.{Place}
 use Rattle.stp_grammar.specs.declared.item.StpItem.TheVariants as stp
 use Rattle.trace_text.specs.Values.{value_text}
-use Rattle.trace_text.specs.ItemText.{item_text, flag_text, owner_text}
+use Rattle.trace_text.specs.ItemText.{item_text, flag_text}
 use Rattle.trace_text.proofs.HexNibbles.{encoded}
 use Rattle.script_text.specs.declared.shapes.Shape.TheVariants as shapes
 use Rattle.script_text.specs.declared.itm_shapes.ItmShape.TheVariants as itm_shapes
@@ -322,7 +322,7 @@ itm_joined (itm.GlobalFirst len value change wrap) h =
     ∙ ap (λ d. codes "global1 " ++ (decimal len ++ (32 ∷ (decimal value ++ (32 ∷ (decimal (bit change) ++ (32 ∷ d)))))))
     (flag_is wrap)
 itm_joined (itm.Extension dwt value) h =
-    ap (λ d. codes "ext " ++ (owner_text dwt ++ (codes " " ++ d))) (encoded 4 value)
+    ap (λ d. codes "ext " ++ ((if dwt then codes "dwt" else codes "itm") ++ (codes " " ++ d))) (encoded 4 value)
 itm_joined packet h = refl
 
 pub dwt_joined : (item : DwtItem) → IsInRange item → hardware_text item ≡ joined (dwt_words item)

@@ -44,7 +44,7 @@ use Rattle.source_events.specs.declared.tails.SourceTail.{SourceTail}
 use Rattle.trace_clock.specs.LastWord.{nibble_count}
 use Rattle.trace_text.specs.Values.{value_text}
 use Rattle.trace_text.specs.HardwareText.{change_text, hardware_text}
-use Rattle.trace_text.specs.ItemText.{lateness_text, flag_text, bits_text, owner_text, item_text}
+use Rattle.trace_text.specs.ItemText.{lateness_text, flag_text, item_text}
 use Rattle.trace_text.specs.HexDigits.{hex_digits}
 use Rattle.trace_text.specs.StpText.{known_text, width_text, mark_text, stamp_text, stp_text}
 use Rattle.trace_text.specs.declared.remark.Remark.{Remark}
@@ -82,10 +82,10 @@ lateness l = search rules
 flag : (b : Bool) → length (flag_text b) ≤ 1
 flag b = search rules
 
-bits : (wide : Bool) → length (bits_text wide) ≤ 2
+bits : (wide : Bool) → length (if wide then codes "64" else codes "48") ≤ 2
 bits wide = search rules
 
-owner : (dwt : Bool) → length (owner_text dwt) ≤ 3
+owner : (dwt : Bool) → length (if dwt then codes "dwt" else codes "itm") ≤ 3
 owner dwt = search rules
 
 -- a first global timestamp has at most 26 bits, and a second one 38
