@@ -72,7 +72,8 @@ full s u x v p e k false = tt
 
 one : (s : State) (u : List Placed) (x : Placed) → PartEnds One u → (a b : Bool) →
     (x.unit == 127) ≡ a → (x.unit == 255) ≡ b →
-    PartEndsNext (if a then half_ended s else (if b then (if s.left == 7 then Go (with_part s Two) else Fail SyncInFrame) else Fail BadSync)) (u ++ x ∷ [])
+    PartEndsNext (if a then half_ended s
+    else (if b then (if s.left == 7 then Go (with_part s Two) else Fail SyncInFrame) else Fail BadSync)) (u ++ x ∷ [])
 one s u x h true b e f = half s (u ++ x ∷ []) (s.left == 7)
 one s u x h false true e f = full s u x h.0 h.1 h.2 (is_ff x f) (s.left == 7)
 one s u x h false false e f = tt

@@ -240,7 +240,8 @@ item_plain (GlobalFirst len value change wrap) =
     (join (decimal value) _ (number value) (word (codes " ") _ refl (join (flag_text change) _ (flag_plain change)
     (word (codes " ") _ refl (flag_plain wrap)))))))
 item_plain (GlobalSecond wide value) =
-    word (codes "global2 ") _ refl (join (if wide then codes "64" else codes "48") _ (bits_plain wide) (word (codes " ") _ refl (number value)))
+    word (codes "global2 ") _ refl (join (if wide then codes "64" else codes "48") _ (bits_plain wide)
+    (word (codes " ") _ refl (number value)))
 item_plain (Extension dwt value) =
     word (codes "ext ") _ refl (join (if dwt then codes "dwt" else codes "itm") _ (owner_plain dwt)
     (word (codes " ") _ refl (hex (to_be_bytes w32 value))))
@@ -280,7 +281,8 @@ stp_plain (MasterError place code) =
 stp_plain (GlobalError code) = word (codes "gerr ") _ refl (hex (code ∷ []))
 stp_plain (Datum place width value marked stamp) =
     word (codes "data ") _ refl (join (place_text place) _ (place_plain place) (word (codes " ") _ refl
-    (join (width_text width ++ (codes " " ++ hex_digits (bits_of width / 4) value)) _ (datum_plain width value) (word (codes " ") _ refl
+    (join (width_text width ++ (codes " " ++ hex_digits (bits_of width / 4) value)) _ (datum_plain width value)
+    (word (codes " ") _ refl
     (join (mark_text marked) _ (mark_plain marked) (word (codes " ") _ refl (stamp_plain stamp)))))))
 stp_plain (Flag place stamp) =
     word (codes "flag ") _ refl (join (place_text place) _ (place_plain place)

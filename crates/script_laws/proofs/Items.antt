@@ -1,7 +1,7 @@
 -- The items of the table: the shape and the values of each, and that its row makes it of them, and no other.
 use Rattle.std.proofs.Common.{◌≡◌, ℕ, zero, suc, ◌-◌, ◌*◌, ◌/◌, ◌%◌, ◌<◌, ◌≤◌, ◌^◌, List, [], ◌∷◌, ◌++◌, refl, sym, ◌∙◌}
-use Rattle.std.proofs.Common.{ap, arith, append_assoc, Bool, true, false, Option, Some, decimal, codes, ◌==◌, nat_le, if◌then◌else◌}
-use Rattle.std.proofs.Common.{IsSome, rules}
+use Rattle.std.proofs.Common.{ap, arith, append_assoc, Bool, true, false, Option, Some, decimal, codes, ◌==◌, nat_le}
+use Rattle.std.proofs.Common.{IsSome, rules, if◌then◌else◌}
 use Rattle.std.specs.Int.{to_be_bytes, w16, w32}
 use Rattle.hex.specs.Hex.{encode_lower}
 use Rattle.itm_grammar.specs.declared.packet.Size.{Size}
@@ -346,7 +346,8 @@ place_joined : (place : Place) (rest : List ℕ) → place_text place ++ (32 ∷
     ++ (32 ∷ (known_text place.channel ++ (32 ∷ rest)))
 place_joined place rest = append_assoc (known_text place.master) (32 ∷ known_text place.channel) (32 ∷ rest)
 
-datum_joined : (width : Width) (value : ℕ) (rest : List ℕ) → (width_text width ++ (32 ∷ hex_digits (bits_of width / 4) value)) ++ (32 ∷ rest) ≡ width_text width
+datum_joined : (width : Width) (value : ℕ) (rest : List ℕ) →
+    (width_text width ++ (32 ∷ hex_digits (bits_of width / 4) value)) ++ (32 ∷ rest) ≡ width_text width
     ++ (32 ∷ (hex_digits (bits_of width / 4) value ++ (32 ∷ rest)))
 datum_joined width value rest = append_assoc (width_text width) (32 ∷ hex_digits (bits_of width / 4) value) (32 ∷ rest)
 

@@ -175,7 +175,8 @@ itm_row GlobalFirst =
     row (codes "global1") (Says (Upto 4) ∷ (Says (Upto (2 ^ 26 - 1)) ∷ (Says (Upto 1) ∷ (Says (Upto 1) ∷ []))))
     (λ v. first_checked v.0 v.1.0 (v.1.1.0 == 1) (v.1.1.1.0 == 1))
 itm_row (GlobalSecond wide) =
-    row (codes "global2") (Word (if wide then codes "64" else codes "48") ∷ (Says (Upto (2 ^ second_bits wide - 1)) ∷ []))
+    row (codes "global2")
+    (Word (if wide then codes "64" else codes "48") ∷ (Says (Upto (2 ^ second_bits wide - 1)) ∷ []))
     (λ v. Some (itm.GlobalSecond wide v.0))
 itm_row (Extension dwt) =
     row (codes "ext") (Word (if dwt then codes "dwt" else codes "itm") ∷ (Says (Digits 8) ∷ []))

@@ -59,16 +59,18 @@ begins_master p = is_some (version_in p)
 abbrev pub begins_channel : StpPacket → Bool
 begins_channel p = begins_master p || (is_some (master8_in p) || is_some (master16_in p))
 
--- A number of 16 bits that packets tell after the last one that begins it anew, or from the start if there is none: its
--- high 8 bits are those of the last packet that tells all of them, and its low 8 those of the last that tells all or the
--- low 8. Where there is no such packet they are 0; but where no packet began the number, and none told all of it, it is
--- unknown.
+-- A number of 16 bits that packets tell after the last one that begins it anew, or from the start if there is none. Its
+-- high 8 bits are those of the last packet that tells all of it, and its low 8 those of the last that tells all of it or
+-- the low 8. Where there is no such packet they are 0; but where no packet began the number, and none told all of it, it
+-- is unknown.
 abbrev pub number_of : (StpPacket → Bool) → (StpPacket → Option ℕ) → (StpPacket → Option ℕ) → List StpPacket → Option ℕ
 number_of begins whole low packets =
     let later = after_last begins packets in
     let high = last_given whole later in
     let last = last_given (λ p. option_or (whole p) (low p)) later in
-    if list_any begins packets || is_some high then Some (unwrap_or high 0 / 256 * 256 + unwrap_or last 0 % 256) else None
+    if list_any begins packets || is_some high
+    then Some (unwrap_or high 0 / 256 * 256 + unwrap_or last 0 % 256)
+    else None
 
 -- the version, the master and the channel in force after these packets; each may be unknown
 unfoldable pub version_of : List StpPacket → Option ℕ
