@@ -26,7 +26,8 @@ module _ (port : ℕ) where
   of_port source (Said (StpOf item)) = refl
   of_port source (Said (Itm Sync)) = refl
   of_port source (Said (Itm Overflow)) = refl
-  of_port source (Said (Itm (Software n size value))) = append-nil (cond (n == port) (bytes_of (byte_count size) value) [])
+  of_port source (Said (Itm (Software n size value))) =
+      append-nil (cond (n == port) (bytes_of (byte_count size) value) [])
   of_port source (Said (Itm (Hardware disc size value))) = refl
   of_port source (Said (Itm (Local lateness delta))) = refl
   of_port source (Said (Itm (GlobalFirst len value change wrap))) = refl
