@@ -8,7 +8,7 @@ use Rattle.itm_grammar.specs.Spelling.{byte_count}
 use Rattle.itm_grammar.specs.declared.packet.ItmPacket.TheVariants.{Sync, Overflow, Software, Hardware, Local}
 use Rattle.itm_grammar.specs.declared.packet.ItmPacket.TheVariants.{GlobalFirst, GlobalSecond, Extension}
 use Rattle.item_tap.specs.declared.choice.Choice.TheVariants.{Port}
-use Rattle.item_tap.specs.Choices.{is_of_port}
+use Rattle.item_tap.specs.Choices.{holds_in}
 use Rattle.source_events.specs.declared.event.What.TheVariants.{Locked, Packet as Said, Trigger}
 use Rattle.source_events.specs.declared.packet.Packet.TheVariants.{Stp as StpOf}
 use Rattle.capture_actions.specs.Names.{Event, What, Packet, Itm, Raw, is_of, holds, content_of}
@@ -17,20 +17,22 @@ use Rattle.capture_actions.specs.PortText.{value_of, written_by, values_in}
 
 module _ (port : ℕ) where
   -- what an event has of the port is its value, if it was written there
-  of_port : (what : What Packet) →
-      flat_map (value_of port) (itm_packet what) ≡ cond (is_of_port port (content_of what)) (written_by what) []
-  of_port (Locked skipped) = refl
-  of_port (Raw bytes) = refl
-  of_port (Trigger byte) = refl
-  of_port (Said (StpOf item)) = refl
-  of_port (Said (Itm Sync)) = refl
-  of_port (Said (Itm Overflow)) = refl
-  of_port (Said (Itm (Software n size value))) = append-nil (cond (n == port) (bytes_of (byte_count size) value) [])
-  of_port (Said (Itm (Hardware disc size value))) = refl
-  of_port (Said (Itm (Local lateness delta))) = refl
-  of_port (Said (Itm (GlobalFirst len value change wrap))) = refl
-  of_port (Said (Itm (GlobalSecond wide value))) = refl
-  of_port (Said (Itm (Extension dwt value))) = refl
+  of_port : (source : Option ℕ) (what : What Packet) →
+      flat_map (value_of port) (itm_packet what)
+      ≡ cond (holds_in (Port port) source (content_of what)) (written_by what) []
+  of_port source (Locked skipped) = refl
+  of_port source (Raw bytes) = refl
+  of_port source (Trigger byte) = refl
+  of_port source (Said (StpOf item)) = refl
+  of_port source (Said (Itm Sync)) = refl
+  of_port source (Said (Itm Overflow)) = refl
+  of_port source (Said (Itm (Software n size value))) =
+      append-nil (cond (n == port) (bytes_of (byte_count size) value) [])
+  of_port source (Said (Itm (Hardware disc size value))) = refl
+  of_port source (Said (Itm (Local lateness delta))) = refl
+  of_port source (Said (Itm (GlobalFirst len value change wrap))) = refl
+  of_port source (Said (Itm (GlobalSecond wide value))) = refl
+  of_port source (Said (Itm (Extension dwt value))) = refl
 
   abbrev all_written : List (Event Packet) → List ℕ
   all_written es = flat_map (λ (e : Event Packet). written_by e.what) es
@@ -43,10 +45,10 @@ module _ (port : ℕ) where
   -- an event, by whether it is of the source
   one : (mine : Bool) (e : Event Packet) (rest : List (Event Packet)) →
       flat_map (value_of port) (cond mine (itm_packet e.what) []) ++ all_written rest
-      ≡ all_written (cond (mine && is_of_port port (content_of e.what)) (e ∷ rest) rest)
+      ≡ all_written (cond (mine && holds (Port port) e) (e ∷ rest) rest)
   one false e rest = refl
   one true e rest =
-      ap (λ (l : List ℕ). l ++ all_written rest) (of_port e.what) ∙ chosen (is_of_port port (content_of e.what)) e rest
+      ap (λ (l : List ℕ). l ++ all_written rest) (of_port e.source e.what) ∙ chosen (holds (Port port) e) e rest
 
   -- the values are those of the events that are chosen
   pub values_chosen : (source : Option ℕ) (es : List (Event Packet)) →

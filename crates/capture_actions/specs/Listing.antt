@@ -66,7 +66,7 @@ lines_after p before es = lines_from p before before es
 
 -- the lines of the events of the report
 abbrev pub listed : ListPlan → List ℕ → List ℕ
-listed p bytes = lines_after p [] (report_of p.plan (placed bytes))
+listed p bytes = lines_from p [] [] (report_of p.plan (placed bytes))
 
 -- what comes after them: the end lines, or the line of the fault alone in their place
 abbrev pub ending_by : Plan → List Placed → Option (Place × (Reason × Option ℕ)) → List ℕ
@@ -78,7 +78,7 @@ ending p bytes = ending_by p.plan (placed bytes) (fault_of p.plan (placed bytes)
 
 -- the whole listing
 abbrev pub listing : ListPlan → List ℕ → List ℕ
-listing p bytes = listed p bytes ++ ending p bytes
+listing p bytes = listed p bytes ++ ending_by p.plan (placed bytes) (fault_of p.plan (placed bytes))
 
 -- all that `show` makes of the bytes of a capture
 abbrev pub show_meaning : ListPlan → Meaning

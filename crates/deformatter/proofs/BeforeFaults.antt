@@ -5,7 +5,7 @@ use Rattle.std.specs.Prelude.{is_none, ◌==◌, ◌&&◌, if◌then◌else◌}
 use Rattle.deformatter.specs.Names.{Next, Go, End, Fail, Place, Placed, Reason, BadSync, SyncInFrame, Progress}
 use Rattle.deformatter.specs.Names.{with_unit, advance, progress_from, unread, Found, hunt, hunt_on, hunt_from, no_hunt}
 use Rattle.deformatter.specs.Names.{run_after, begun, Seeks, port_progress, PortItem, Full, Half, State, Part, Between}
-use Rattle.deformatter.specs.Names.{First, One, Two, Three, start, rule, part_rule, word_ended, half_ended, full_begun}
+use Rattle.deformatter.specs.Names.{First, One, Two, Three, start, rule, part_rule, word_ended, half_ended}
 use Rattle.deformatter.specs.Names.{with_part, pattern}
 use Rattle.trace_values.specs.Hunted.{Hunt}
 use Rattle.std.proofs.lemmas.List.{length-append}
@@ -72,7 +72,8 @@ full s u x v p e k false = tt
 
 one : (s : State) (u : List Placed) (x : Placed) → PartEnds One u → (a b : Bool) →
     (x.unit == 127) ≡ a → (x.unit == 255) ≡ b →
-    PartEndsNext (if a then half_ended s else (if b then full_begun s else Fail BadSync)) (u ++ x ∷ [])
+    PartEndsNext (if a then half_ended s
+    else (if b then (if s.left == 7 then Go (with_part s Two) else Fail SyncInFrame) else Fail BadSync)) (u ++ x ∷ [])
 one s u x h true b e f = half s (u ++ x ∷ []) (s.left == 7)
 one s u x h false true e f = full s u x h.0 h.1 h.2 (is_ff x f) (s.left == 7)
 one s u x h false false e f = tt

@@ -6,12 +6,12 @@ use Rattle.std.proofs.lemmas.List.{map-append}
 use Rattle.std.proofs.lemmas.List.Concat.{flat_map-append}
 use Rattle.deformatter.specs.Names.{Cell, Place, Placed, byte_at, placed_from, units_of, FramesMode, Hunt, Aligned}
 use Rattle.deformatter.specs.Names.{Bare, PortItem, Full, Half, Frame, offsets_of, cells_of_items, id_of_items}
-use Rattle.deformatter.specs.Names.{item_cells, item_id, fulls_in}
+use Rattle.deformatter.specs.Names.{cells, id_after, item_cells, item_id, fulls_in}
 use Rattle.deformatter.specs.Reading.{PortStream, port_stream, items_of, cells_in}
 use Rattle.deformatter.specs.Growth.{PortSettled, PortRises}
 use Rattle.deformatter.proofs.ReadingLaws as port
 use Rattle.frame_grammar.proofs.Runs.{cells_have_runs, one_has_runs}
-use Rattle.deformatter.specs.PortReading.{item_frames, frames_of_items, framed, bare_cell, bare, port_reading, cells_of}
+use Rattle.deformatter.specs.PortReading.{frames_of_items, framed, bare_cell, bare, port_reading, cells_of}
 use Rattle.deformatter.specs.ReadingGrowth.{Settled, Rises, IsNothing}
 use Rattle.deformatter.specs.Runs.{HaveRuns}
 
@@ -41,9 +41,11 @@ bare_cells (b ∷ u) = ap (λ (l : List Cell). bare_cell b ∷ l) (bare_cells u)
 -- the frames of items that follow one another: each begins with the ID in force after those before it
 pub frames_of_items-append : (id : Option ℕ) (xs ys : List PortItem) → frames_of_items id (xs ++ ys) ≡ frames_of_items id xs ++ frames_of_items (id_of_items id xs) ys
 frames_of_items-append id [] ys = refl
-frames_of_items-append id (p ∷ xs) ys =
-    ap (λ (l : List (List Cell)). item_frames id p ++ l) (frames_of_items-append (item_id id p) xs ys)
-    ∙ sym (append_assoc (item_frames id p) (frames_of_items (item_id id p) xs) (frames_of_items (id_of_items (item_id id p) xs) ys))
+frames_of_items-append id (Full ∷ xs) ys = frames_of_items-append id xs ys
+frames_of_items-append id (Half ∷ xs) ys = frames_of_items-append id xs ys
+frames_of_items-append id (Frame f halves ∷ xs) ys =
+    ap (λ (l : List (List Cell)). cells (units_of f) (offsets_of f) id ∷ l)
+    (frames_of_items-append (id_after (units_of f) id) xs ys)
 
 -- a fault is the end of a reading
 framed_settled : (a b : PortStream) → PortSettled a b → Settled (framed a) (framed b)

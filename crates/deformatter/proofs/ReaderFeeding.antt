@@ -19,7 +19,7 @@ use Rattle.deformatter.specs.declared.step.PortStep.{PortStep}
 use Rattle.deformatter.specs.declared.step.PortStep.TheVariants.{Quiet, Half as HalfEnds, Full as FullEnds}
 use Rattle.deformatter.specs.declared.step.PortStep.TheVariants.{Frame as FrameEnds, Locked, Fault as Faulty}
 use Rattle.deformatter.specs.Modes.{is_bare, hunts}
-use Rattle.deformatter.specs.PortReading.{PortReading, item_frames, frames_of_items, framed, bare_cell, bare, port_reading}
+use Rattle.deformatter.specs.PortReading.{PortReading, frames_of_items, framed, bare_cell, bare, port_reading}
 use Rattle.deformatter.specs.ReadingGrowth.{frames_by, CellsFit, Grows, Answers, IsInside, FedFrame, GrowsByFrame}
 use Rattle.deformatter.specs.Reader.{StandsByMode}
 use Rattle.deformatter.proofs.Growing.{items_push}
@@ -31,12 +31,11 @@ record Gained (a b : PortStream) (step : PortStep) (cells : List Cell) : Type 0 
   fit : CellsFit step cells
 
 -- the frames and cells of items with one more
-frames_push : (a b : PortStream) (p : PortItem) (place : Place) → b.items ≡ a.items ++ (p, place) ∷ [] → (framed b).frames ≡ (framed a).frames ++ item_frames (id_in a) p
+frames_push : (a b : PortStream) (p : PortItem) (place : Place) → b.items ≡ a.items ++ (p, place) ∷ [] → (framed b).frames ≡ (framed a).frames ++ frames_of_items (id_in a) (p ∷ [])
 frames_push a b p place e =
     ap (λ (l : List (PortItem × Place)). frames_of_items None (items_of l)) e
     ∙ ap (frames_of_items None) (items_push a.items p place)
     ∙ frames_of_items-append None (items_of a.items) (p ∷ [])
-    ∙ ap (λ (l : List (List Cell)). (framed a).frames ++ l) (append-nil (item_frames (id_in a) p))
 
 cells_push : (a b : PortStream) (p : PortItem) (place : Place) → b.items ≡ a.items ++ (p, place) ∷ [] → cells_in b ≡ cells_in a ++ item_cells (id_in a) p
 cells_push a b p place e =

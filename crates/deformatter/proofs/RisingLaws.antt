@@ -4,9 +4,10 @@ use Rattle.std.proofs.Common.{ap, subst, append_assoc, inl, inr, arith, Bool, tr
 use Rattle.std.specs.Prelude.{slice_index}
 use Rattle.std.proofs.lemmas.List.{map-append}
 use Rattle.deformatter.specs.Names.{Cell, Place, Placed, placed_from, placed, units_of, Splits, FramesMode, Hunt}
-use Rattle.deformatter.specs.Names.{Aligned, Bare, names, cell, even_data, even_cells, odd_cells, cells_below, cells}
+use Rattle.deformatter.specs.Names.{Aligned, Bare, names, cell, even_data, even_cells, cells_below, cells}
 use Rattle.deformatter.specs.Names.{PortItem, Full, Half, Frame, IsWord, IsWords, IsFrame, Spells, why, rule, start}
 use Rattle.deformatter.specs.Names.{offsets_of, item_cells, item_id, cells_of_items, port_reading as grammar_reading}
+use Rattle.frame_grammar.proofs.Cells.{odd_cells}
 use Rattle.trace_values.proofs.Readings as readings
 use Rattle.frame_grammar.proofs.Deciding.{port_decided}
 use Rattle.frame_grammar.proofs.Items.{frame_bytes}

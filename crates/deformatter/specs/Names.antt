@@ -1,8 +1,8 @@
 -- Names of lower crates, for the files of this one.
 pub use Rattle.frame_grammar.specs.Frame.{IsProperBelow, IsProperFrame, cell, cells, cells_below, even_cells, even_data}
-pub use Rattle.frame_grammar.specs.Frame.{id_after, names, odd_cells}
+pub use Rattle.frame_grammar.specs.Frame.{id_after, names}
 pub use Rattle.frame_grammar.specs.Port.{Between, First, Frame, Full, Half, IsFrame, IsWord, IsWords, One, Part}
-pub use Rattle.frame_grammar.specs.Port.{PortItem, Spells, State, Three, Two, full_begun, half_ended, half_words}
+pub use Rattle.frame_grammar.specs.Port.{PortItem, Spells, State, Three, Two, half_ended, half_words}
 pub use Rattle.frame_grammar.specs.Port.{part_rule, rule, start, why, with_part, word_ended}
 pub use Rattle.frame_grammar.specs.Reading.{cells_of_items, frame_count, frames_in, full_count, fulls_in, half_count}
 pub use Rattle.frame_grammar.specs.Reading.{halves_in, id_of_items, item_cells, item_id, offsets_of, port_cells}

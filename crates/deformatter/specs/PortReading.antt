@@ -1,11 +1,11 @@
 -- What the bytes of a port read as: in frames from the first byte on, in frames after a hunt (CoreSight Architecture
 -- Specification, Arm IHI 0029E (version 3.0), chapter 'Trace Formatter', its section on frames), or bare, with no
 -- formatter (this project's profile).
-use Rattle.std.specs.Prelude.{ℕ, List, [], ◌∷◌, ◌++◌, map, Bool, true, false, Option, None, Some}
-use Rattle.std.specs.List.{flat_map}
+use Rattle.std.specs.Prelude.{ℕ, List, [], ◌∷◌, map, Bool, true, false, Option, None, Some}
+use Rattle.std.specs.List.{flat_map, sum_by}
 use Rattle.deformatter.specs.Names.{Cell, Reason, Place, Placed, FramesMode, Hunt, Aligned, Bare, PortItem, Full, Half}
-use Rattle.deformatter.specs.Names.{Frame, item_cells, item_id}
-use Rattle.deformatter.specs.Reading.{PortStream, port_stream, items_of, fulls_of}
+use Rattle.deformatter.specs.Names.{Frame, cells, id_after, offsets_of, units_of, fulls_in}
+use Rattle.deformatter.specs.Reading.{PortStream, port_stream, items_of}
 
 -- What a port's bytes read as: the cells of each frame, in order; how many full and half synchronisations, a half one
 -- inside an unfinished frame too; the fault; how many bytes are after the last whole frame or synchronisation; how many
@@ -19,22 +19,19 @@ pub record PortReading : Type 0 where
   pub skipped : ℕ
   pub locked : Bool
 
--- the frames that an item is, each by its cells after this ID: none, or one
-abbrev pub item_frames : Option ℕ → PortItem → List (List Cell)
-item_frames id Full = []
-item_frames id Half = []
-item_frames id (Frame f halves) = item_cells id (Frame f halves) ∷ []
-
 -- the cells of each frame of some items, after this ID: synchronisations leave the ID as it is
 abbrev pub frames_of_items : Option ℕ → List PortItem → List (List Cell)
 frames_of_items id [] = []
-frames_of_items id (p ∷ items) = item_frames id p ++ frames_of_items (item_id id p) items
+frames_of_items id (Full ∷ items) = frames_of_items id items
+frames_of_items id (Half ∷ items) = frames_of_items id items
+frames_of_items id (Frame f halves ∷ items) =
+    cells (units_of f) (offsets_of f) id ∷ frames_of_items (id_after (units_of f) id) items
 
 -- the reading of bytes with a formatter; no ID is in force before the first frame
 abbrev pub framed : PortStream → PortReading
 framed s = record {
   frames = frames_of_items None (items_of s.items);
-  fulls = fulls_of s;
+  fulls = sum_by fulls_in (items_of s.items);
   halves = s.halves;
   fault = s.fault;
   tail = s.tail;

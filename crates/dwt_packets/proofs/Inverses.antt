@@ -10,24 +10,21 @@ use Rattle.dwt_packets.specs.declared.item.Change.{Change}
 use Rattle.dwt_packets.specs.declared.item.Change.TheVariants.{Enter, Exit, Return}
 use Rattle.dwt_packets.specs.declared.item.DwtItem.{DwtItem}
 use Rattle.dwt_packets.specs.declared.item.DwtItem.TheVariants.{Counters, Exception, Sample, Asleep, MatchPc, MatchAddress, Read, Written, Other}
-use Rattle.dwt_packets.specs.Table.{Row, comparator_rows, fits, NoRowFits, name, is_other, one, two, four, bits, change_of}
+use Rattle.dwt_packets.specs.Table.{Row, comparator_rows, fits, NoRowFits, name, is_other, is_size, bits, change_of}
 use Rattle.dwt_packets.specs.Packet.{packet, IsProperItem, IsInRange, change_bits}
 use Rattle.dwt_packets.proofs.FirstRow.{Each, each_comparator, by_table, no_row}
 
-is_one : (s : Size) → one s ≡ true → s ≡ One
-is_one One e = refl
-is_one Two e = cc
-is_one Four e = cc
-
-is_two : (s : Size) → two s ≡ true → s ≡ Two
-is_two One e = cc
-is_two Two e = refl
-is_two Four e = cc
-
-is_four : (s : Size) → four s ≡ true → s ≡ Four
-is_four One e = cc
-is_four Two e = cc
-is_four Four e = refl
+-- a size is the one that the test has
+same_size : (z s : Size) → is_size z s ≡ true → s ≡ z
+same_size One One e = refl
+same_size One Two e = cc
+same_size One Four e = cc
+same_size Two One e = cc
+same_size Two Two e = refl
+same_size Two Four e = cc
+same_size Four One e = cc
+same_size Four Two e = cc
+same_size Four Four e = refl
 
 -- what it is to fit a row
 fitting : (d n : ℕ) (t u : Bool) → (d == n && (t && u)) ≡ true → (d ≡ n) × (t ≡ true) × (u ≡ true)
@@ -74,11 +71,11 @@ of_row d n s z v item p e f r = (p ∙ rw (e, f) refl, r)
 comparator_inverse : (d : ℕ) (s : Size) (v : ℕ) → v < 256 ^ byte_count s → (c : ℕ) → c < 4 →
     Each (Inverts d s v) (comparator_rows c)
 comparator_inverse d s v h c k = (
-  λ e. let f = fitting d (8 + 2 * c) (four s) true e in
-      let z = is_four s f.1 in of_row d (8 + 2 * c) s Four v (MatchPc c v) refl f.0 z (k, fits_in s Four v z h),
+  λ e. let f = fitting d (8 + 2 * c) (is_size Four s) true e in
+      let z = same_size Four s f.1 in of_row d (8 + 2 * c) s Four v (MatchPc c v) refl f.0 z (k, fits_in s Four v z h),
   (
-    λ e. let f = fitting d (9 + 2 * c) (two s) true e in
-        let z = is_two s f.1 in of_row d (9 + 2 * c) s Two v (MatchAddress c v) refl f.0 z (k, fits_in s Two v z h),
+    λ e. let f = fitting d (9 + 2 * c) (is_size Two s) true e in
+        let z = same_size Two s f.1 in of_row d (9 + 2 * c) s Two v (MatchAddress c v) refl f.0 z (k, fits_in s Two v z h),
     (
       λ e. let f = fitting d (16 + 2 * c) true true e in of_row d (16 + 2 * c) s s v (Read c s v) refl f.0 refl (k, h),
       (
@@ -94,30 +91,30 @@ inverse d s v g h = by_table (Inverse d s v) d s v
     (counters, (exceptions, (samples, (sleeps, each_comparator (Inverts d s v) (comparator_inverse d s v h)))))
     (λ none. (refl, ((g, h), none)))
   where
-    counters : (d == 0 && (one s && (bits 7 6 v == 0))) ≡ true → Inverse d s v (Counters v)
+    counters : (d == 0 && (is_size One s && (bits 7 6 v == 0))) ≡ true → Inverse d s v (Counters v)
     counters e =
-        let f = fitting d 0 (one s) (bits 7 6 v == 0) e in
-        let z = is_one s f.1 in
+        let f = fitting d 0 (is_size One s) (bits 7 6 v == 0) e in
+        let z = same_size One s f.1 in
         let k : v < 256 ^ 1 = fits_in s One v z h in
         let n : bits 7 6 v ≡ 0 = eqb-true (bits 7 6 v) 0 f.2 in
         of_row d 0 s One v (Counters v) refl f.0 z (omega arith)
 
-    exceptions : (d == 1 && (two s && is_exception v)) ≡ true → Inverse d s v (Exception (bits 8 0 v) (change_of (bits 13 12 v)))
+    exceptions : (d == 1 && (is_size Two s && is_exception v)) ≡ true → Inverse d s v (Exception (bits 8 0 v) (change_of (bits 13 12 v)))
     exceptions e =
-        let f = fitting d 1 (two s) (is_exception v) e in
-        let z = is_two s f.1 in
+        let f = fitting d 1 (is_size Two s) (is_exception v) e in
+        let z = same_size Two s f.1 in
         let k : v < 256 ^ 2 = fits_in s Two v z h in
         of_row d 1 s Two v (Exception (bits 8 0 v) (change_of (bits 13 12 v))) (rw (exception_again v k f.2) refl) f.0 z (omega arith)
 
-    samples : (d == 2 && (four s && true)) ≡ true → Inverse d s v (Sample v)
+    samples : (d == 2 && (is_size Four s && true)) ≡ true → Inverse d s v (Sample v)
     samples e =
-        let f = fitting d 2 (four s) true e in
-        let z = is_four s f.1 in of_row d 2 s Four v (Sample v) refl f.0 z (fits_in s Four v z h)
+        let f = fitting d 2 (is_size Four s) true e in
+        let z = same_size Four s f.1 in of_row d 2 s Four v (Sample v) refl f.0 z (fits_in s Four v z h)
 
-    sleeps : (d == 2 && (one s && (v == 0))) ≡ true → Inverse d s v Asleep
+    sleeps : (d == 2 && (is_size One s && (v == 0))) ≡ true → Inverse d s v Asleep
     sleeps e =
-        let f = fitting d 2 (one s) (v == 0) e in
-        let z = is_one s f.1 in
+        let f = fitting d 2 (is_size One s) (v == 0) e in
+        let z = same_size One s f.1 in
         let n = eqb-true v 0 f.2 in of_row d 2 s One v Asleep (rw n refl) f.0 z tt
 
 -- what holds of each comparator

@@ -31,35 +31,20 @@ pub record Row : Type 0 where
 abbrev pub row : ℕ → (Size → Bool) → (ℕ → Bool) → (Size → ℕ → DwtItem) → Row
 row disc has_size has_value item = record { disc = disc; has_size = has_size; has_value = has_value; item = item }
 
--- one byte, two, four, or any of these
-abbrev pub one : Size → Bool
-one One = true
-one Two = false
-one Four = false
-
-abbrev pub two : Size → Bool
-two One = false
-two Two = true
-two Four = false
-
-abbrev pub four : Size → Bool
-four One = false
-four Two = false
-four Four = true
-
-abbrev pub any_size : Size → Bool
-any_size size = true
-
-abbrev pub any_value : ℕ → Bool
-any_value value = true
+-- it is this size
+abbrev pub is_size : Size → Size → Bool
+is_size One One = true
+is_size Two Two = true
+is_size Four Four = true
+is_size size other = false
 
 -- the rows of comparator c, the manual's 'Data trace packets': PC value, address offset, data value read and written
 abbrev pub comparator_rows : ℕ → List Row
 comparator_rows c =
-    row (8 + 2 * c) four any_value (λ s v. MatchPc c v)
-    ∷ row (9 + 2 * c) two any_value (λ s v. MatchAddress c v)
-    ∷ row (16 + 2 * c) any_size any_value (λ s v. Read c s v)
-    ∷ row (17 + 2 * c) any_size any_value (λ s v. Written c s v)
+    row (8 + 2 * c) (is_size Four) (λ v. true) (λ s v. MatchPc c v)
+    ∷ row (9 + 2 * c) (is_size Two) (λ v. true) (λ s v. MatchAddress c v)
+    ∷ row (16 + 2 * c) (λ s. true) (λ v. true) (λ s v. Read c s v)
+    ∷ row (17 + 2 * c) (λ s. true) (λ v. true) (λ s v. Written c s v)
     ∷ []
 
 -- The table: 'Event counter packet', 'Exception trace packet', 'Periodic PC sample packets' of a PC and of a processor
@@ -67,11 +52,11 @@ comparator_rows c =
 -- another item is this project's profile.
 abbrev pub table : List Row
 table =
-    row 0 one (λ v. bits 7 6 v == 0) (λ s v. Counters v)
-    ∷ row 1 two (λ v. bits 15 14 v == 0 && (bits 11 9 v == 0 && nat_lt 0 (bits 13 12 v)))
+    row 0 (is_size One) (λ v. bits 7 6 v == 0) (λ s v. Counters v)
+    ∷ row 1 (is_size Two) (λ v. bits 15 14 v == 0 && (bits 11 9 v == 0 && nat_lt 0 (bits 13 12 v)))
     (λ s v. Exception (bits 8 0 v) (change_of (bits 13 12 v)))
-    ∷ row 2 four any_value (λ s v. Sample v)
-    ∷ row 2 one (λ v. v == 0) (λ s v. Asleep)
+    ∷ row 2 (is_size Four) (λ v. true) (λ s v. Sample v)
+    ∷ row 2 (is_size One) (λ v. v == 0) (λ s v. Asleep)
     ∷ (comparator_rows 0 ++ (comparator_rows 1 ++ (comparator_rows 2 ++ comparator_rows 3)))
 
 -- a row fits a packet

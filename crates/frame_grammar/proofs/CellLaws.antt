@@ -9,7 +9,8 @@ use Rattle.std.proofs.lemmas.List.Elements.{All-nil, All-cons, All-append, All-c
 use Rattle.std.proofs.lemmas.List.Sums.{sum_by_push}
 use Rattle.std.proofs.lemmas.List.Sorted.{IsNonDecreasingBy-push, IsNonDecreasingBy-short}
 use Rattle.frame_grammar.specs.Names.{Cell, source_id}
-use Rattle.frame_grammar.specs.Frame.{names, aux_bit, in_effect, id_below, id_at, run_below, run_at, even_data, cell, even_cells, odd_cells, cells_below, cells, data_indexes, data_at}
+use Rattle.frame_grammar.specs.Frame.{names, aux_bit, in_effect, id_below, id_at, run_below, run_at, even_data, cell, even_cells, cells_below, cells, data_indexes, data_at}
+use Rattle.frame_grammar.proofs.Cells.{odd_cells}
 
 -- what is in effect at an index is in effect after it
 lasts_by : (name : Bool) (j i k a : ℕ) → i ≤ k → (name && nat_lt j i && (a == 0 || nat_lt (j + 1) i)) ≡ true → (name && nat_lt j k && (a == 0 || nat_lt (j + 1) k)) ≡ true

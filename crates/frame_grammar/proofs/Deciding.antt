@@ -5,10 +5,14 @@ use Rattle.std.proofs.lemmas.Bool.{eq-eqb, ne_eqb, eqb-true, eqb-false}
 use Rattle.frame_grammar.specs.Names.{Reason, BadSync, SyncInFrame, Next, Go, End, Fail, Placed, byte_at, units_of}
 use Rattle.frame_grammar.specs.Names.{Walked, Within, Whole, after, walk, Decides}
 use Rattle.trace_values.proofs.Walks as walks
-use Rattle.frame_grammar.specs.Port.{PortItem, Full, Half, Frame, half_spelling, IsWord, IsWords, Spells, last_unit, why, Part, Between, First, One, Two, Three, State, start, word_ended, half_ended, full_begun, rule}
+use Rattle.frame_grammar.specs.Port.{PortItem, Full, Half, Frame, half_spelling, IsWord, IsWords, Spells, last_unit, why, Part, Between, First, One, Two, Three, State, start, word_ended, half_ended, with_part, rule}
 
 abbrev pub at : ℕ → List Placed → ℕ → Part → State
 at n f h p = record { left = n; bytes = f; halves = h; part = p }
+
+-- after FF FF
+abbrev full_begun : State → Next State PortItem
+full_begun s = cond (s.left == 7) (Go (with_part s Two)) (Fail SyncInFrame)
 
 abbrev pub on : State → List Placed → Walked State PortItem
 on s r = walk rule s r

@@ -1,4 +1,5 @@
 pub mod Looks
+pub mod Cells
 pub mod Pairs
 pub mod CellLaws
 pub mod Runs

@@ -5,7 +5,8 @@ use Rattle.std.proofs.lemmas.Bool.Decides.{nat_tests}
 use Rattle.std.proofs.lemmas.List.{map-append}
 use Rattle.std.proofs.lemmas.List.Elements.{filter-append}
 use Rattle.frame_grammar.specs.Names.{Cell, source_id, byte_at, units_of}
-use Rattle.frame_grammar.specs.Frame.{names, aux_bit, even_data, even_cells, odd_cells, cells_below, cells, id_at, run_at, cell, IsInForce}
+use Rattle.frame_grammar.specs.Frame.{names, aux_bit, even_data, even_cells, cells_below, cells, id_at, run_at, cell, IsInForce}
+use Rattle.frame_grammar.proofs.Cells.{odd_cells}
 use Rattle.frame_grammar.specs.Reading.{is_source, source_list, offsets_of}
 use Rattle.frame_grammar.specs.SourceBytes.{bytes_of_source, source_units}
 use Rattle.frame_grammar.proofs.Looks.{passes, passes_odd, names_now, defers, names_next}

@@ -55,18 +55,16 @@ abbrev pub cell : List ℕ → List ℕ → Option ℕ → ℕ → ℕ → Cell
 cell frame offsets id i byte =
     record { at = slice_index offsets i; id = id_at frame id i; run = run_at frame i; byte = byte }
 
--- the cells at 2k and at 2k + 1
+-- the cells at 2k: none where the byte there names a source
 abbrev pub even_cells : List ℕ → List ℕ → Option ℕ → ℕ → List Cell
 even_cells frame offsets id k = if names frame k then [] else (cell frame offsets id (2 * k) (even_data frame k) ∷ [])
 
-abbrev pub odd_cells : List ℕ → List ℕ → Option ℕ → ℕ → List Cell
-odd_cells frame offsets id k = cell frame offsets id (2 * k + 1) (slice_index frame (2 * k + 1)) ∷ []
-
--- the cells below 2n
+-- the cells below 2n, of which each byte at an odd index is one
 abbrev pub cells_below : List ℕ → List ℕ → Option ℕ → ℕ → List Cell
 cells_below frame offsets id zero = []
 cells_below frame offsets id (suc k) =
-    cells_below frame offsets id k ++ (even_cells frame offsets id k ++ odd_cells frame offsets id k)
+    cells_below frame offsets id k
+    ++ (even_cells frame offsets id k ++ cell frame offsets id (2 * k + 1) (slice_index frame (2 * k + 1)) ∷ [])
 
 -- the cells of the frame that follows this ID; byte 15 is none
 abbrev pub cells : List ℕ → List ℕ → Option ℕ → List Cell

@@ -95,15 +95,13 @@ half_ended s =
     if s.left == 7 then End Half
     else Go (record { left = s.left; bytes = s.bytes; halves = s.halves + 1; part = Between })
 
--- after FF FF
-abbrev pub full_begun : State → Next State PortItem
-full_begun s = if s.left == 7 then Go (with_part s Two) else Fail SyncInFrame
-
 -- one more byte after this part
 abbrev pub part_rule : Part → State → Placed → Next State PortItem
 part_rule Between s x = if x.unit == 0xFF then Go (with_part s One) else Go (with_part s (First x))
 part_rule (First a) s x = word_ended s.left (s.bytes ++ (a ∷ (x ∷ []))) s.halves
-part_rule One s x = if x.unit == 0x7F then half_ended s else (if x.unit == 0xFF then full_begun s else Fail BadSync)
+part_rule One s x =
+    if x.unit == 0x7F then half_ended s
+    else (if x.unit == 0xFF then (if s.left == 7 then Go (with_part s Two) else Fail SyncInFrame) else Fail BadSync)
 part_rule Two s x = if x.unit == 0xFF then Go (with_part s Three) else Fail BadSync
 part_rule Three s x = if x.unit == 0x7F then End Full else Fail BadSync
 

@@ -1,7 +1,7 @@
 //! The cells of a frame.
 
-ghost use Rattle.std.specs.Prelude.{◌≡◌, ℕ, ◌<◌, ◌≤◌, ◌+◌, ◌*◌, ◌++◌, [], length, Option, IsTrue};
-ghost use Rattle.frame_grammar.specs.Frame.{IsProperFrame, cells, id_after, even_cells, odd_cells, IsInForce};
+ghost use Rattle.std.specs.Prelude.{◌≡◌, ℕ, ◌<◌, ◌≤◌, ◌+◌, ◌*◌, ◌++◌, ◌∷◌, [], length, slice_index, Option, IsTrue};
+ghost use Rattle.frame_grammar.specs.Frame.{IsProperFrame, cells, id_after, even_cells, cell, IsInForce};
 
 use arrayvec::ArrayVec;
 use trace_values::{Cell, SourceId};
@@ -42,7 +42,8 @@ fn take_pair(
     requires room { length out.old.items ≤ 2 * pair }
     requires run { now.run ≤ pair }
     ensures cells { (id : Option ℕ) → IsInForce frame.now id (2 * pair) now.id now.run →
-        out.new.items ≡ out.old.items ++ (even_cells frame.now at.now id pair ++ odd_cells frame.now at.now id pair) }
+        out.new.items ≡ out.old.items ++ (even_cells frame.now at.now id pair
+        ++ cell frame.now at.now id (2 * pair + 1) (slice_index frame.now (2 * pair + 1)) ∷ []) }
     ensures id { (id : Option ℕ) → IsInForce frame.now id (2 * pair) now.id now.run →
         IsInForce frame.now id (2 * (pair + 1)) result.id result.run }
     ensures room { length out.new.items ≤ length out.old.items + 2 }

@@ -8,7 +8,8 @@ use Rattle.std.proofs.lemmas.List.{length_push, get_or-append-add, map-append, r
 use Rattle.std.proofs.lemmas.Bool.{eqb-true}
 use Rattle.trace_values.specs.Cells.{source_id}
 use Rattle.trace_values.specs.declared.cell.Cell.{Cell}
-use Rattle.frame_grammar.specs.Frame.{names, aux_bit, even_data, even_cells, odd_cells, cells_below, cells, id_after, IsInForce}
+use Rattle.frame_grammar.specs.Frame.{names, aux_bit, even_data, even_cells, cells_below, cells, id_after, IsInForce}
+use Rattle.frame_grammar.proofs.Cells.{odd_cells}
 use Rattle.frame_grammar.proofs.Looks.{passes, passes_odd, names_now, names_next, defers, starts}
 use Rattle.frame_grammar.proofs.Pairs.{made, even_is, even_no, odd_is}
 use Rattle.frame_writer.specs.declared.pair.Pair.{Pair}

@@ -1,10 +1,15 @@
 -- A window after one more event, and both forms of what passes.
 use Rattle.std.proofs.Common.{◌≡◌, ◌↔◌, Bool, true, false, not, ◌&&◌, ◌||◌, inl, inr, List, [], ◌∷◌, ◌++◌, refl, sym, ◌∙◌, ap}
+use Rattle.std.specs.List.{list_all}
 use Rattle.std.proofs.lemmas.List.Folds.{list_all-append}
 use Rattle.std.proofs.lemmas.Bool.{or_cases, and_parts, or_right}
 use Rattle.source_events.specs.declared.event.Event.{Event}
 use Rattle.source_events.specs.declared.packet.Packet.{Packet}
-use Rattle.item_tap.specs.Windows.{holds_for_none, IsOpenAfter, Passes, is_open_after, passes}
+use Rattle.item_tap.specs.Windows.{IsOpenAfter, Passes, is_open_after, passes}
+
+-- it holds for none of these events
+abbrev holds_for_none : (Event Packet → Bool) → List (Event Packet) → Bool
+holds_for_none rule es = list_all (λ e. not (rule e)) es
 
 and_true : (b : Bool) → (b && true) ≡ b
 and_true true = refl

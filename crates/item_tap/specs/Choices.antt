@@ -1,5 +1,5 @@
 -- Which events a choice holds for, and a list of choices.
-use Rattle.std.specs.Prelude.{ℕ, Bool, true, false, not, List, Option, None, Some, ◌&&◌, ◌==◌}
+use Rattle.std.specs.Prelude.{ℕ, Bool, true, false, List, Option, None, Some, ◌==◌}
 use Rattle.std.specs.List.{list_any}
 use Rattle.std.specs.Option.{option_map_or}
 use Rattle.dwt_packets.specs.declared.item.DwtItem.{DwtItem}
@@ -31,33 +31,24 @@ content_of (Given (StpKind item)) = OfStp
 content_of (Bytes bytes) = OfRaw
 content_of (TriggerByte byte) = OfTrigger
 
--- a hardware source packet, which an ITM sends for a DWT unit (ARMv7-M Architecture Reference Manual, Arm DDI 0403E,
--- appendix D4 'Debug ITM and DWT Packet Protocol', section D4.2 'Packet descriptions')
-abbrev pub is_hardware : ItmPacket → Bool
-is_hardware (Hardware disc size value) = true
-is_hardware packet = false
-
--- a local or a global timestamp (the same section)
+-- a local or a global timestamp (ARMv7-M Architecture Reference Manual, Arm DDI 0403E, appendix D4 'Debug ITM and DWT
+-- Packet Protocol', section D4.2 'Packet descriptions')
 abbrev pub is_stamp : ItmPacket → Bool
 is_stamp (Local lateness delta) = true
 is_stamp (GlobalFirst len value change wrap) = true
 is_stamp (GlobalSecond wide value) = true
 is_stamp packet = false
 
--- What is of a kind: hardware source packets are of the DWT, and all other packets of an ITM source of the ITM. A
--- notice of a lock is of no kind.
+-- What is of a kind: hardware source packets, which an ITM sends for a DWT unit (the same section), are of the DWT, and
+-- all other packets of an ITM source of the ITM. A notice of a lock is of no kind.
 abbrev pub is_of_kind : Kind → Content → Bool
-is_of_kind Itm (OfItm packet) = not (is_hardware packet)
-is_of_kind Dwt (OfItm packet) = is_hardware packet
+is_of_kind Itm (OfItm (Hardware disc size value)) = false
+is_of_kind Itm (OfItm packet) = true
+is_of_kind Dwt (OfItm (Hardware disc size value)) = true
 is_of_kind Stp OfStp = true
 is_of_kind Raw OfRaw = true
 is_of_kind Trigger OfTrigger = true
 is_of_kind kind content = false
-
--- what software wrote to this stimulus port
-abbrev pub is_of_port : ℕ → Content → Bool
-is_of_port n (OfItm (Software port size value)) = port == n
-is_of_port n content = false
 
 -- the comparator whose match an item of the DWT tells
 abbrev pub comparator_of : DwtItem → Option ℕ
@@ -67,33 +58,18 @@ comparator_of (Read comparator size value) = Some comparator
 comparator_of (Written comparator size value) = Some comparator
 comparator_of item = None
 
--- the data, the address or the PC of a match of this comparator
-abbrev pub is_of_comparator : ℕ → Content → Bool
-is_of_comparator n (OfItm (Hardware disc size value)) =
-    option_map_or (λ comparator. comparator == n) (comparator_of (name disc size value)) false
-is_of_comparator n content = false
-
--- a timestamp of an ITM source
-abbrev pub is_time : Content → Bool
-is_time (OfItm packet) = is_stamp packet
-is_time content = false
-
--- the notice of a lock
-abbrev pub is_notice : Content → Bool
-is_notice Notice = true
-is_notice content = false
-
--- what a source of this ID gives, and no notice of its lock
-abbrev pub is_of_source : ℕ → Option ℕ → Content → Bool
-is_of_source x source content = not (is_notice content) && is_of (Some x) source
-
--- the choice holds for what this source gives, or the port
+-- The choice holds for what this source gives, or the port: what is of a kind; what a source of this ID gives, but no
+-- notice of its lock; what software wrote to this stimulus port; the data, the address or the PC of a match of this
+-- comparator; or a timestamp of an ITM source.
 abbrev pub holds_in : Choice → Option ℕ → Content → Bool
 holds_in (OfKind kind) source content = is_of_kind kind content
-holds_in (Source x) source content = is_of_source x source content
-holds_in (Port n) source content = is_of_port n content
-holds_in (Comparator n) source content = is_of_comparator n content
-holds_in Time source content = is_time content
+holds_in (Source x) source Notice = false
+holds_in (Source x) source content = is_of (Some x) source
+holds_in (Port n) source (OfItm (Software port size value)) = port == n
+holds_in (Comparator n) source (OfItm (Hardware disc size value)) =
+    option_map_or (λ comparator. comparator == n) (comparator_of (name disc size value)) false
+holds_in Time source (OfItm packet) = is_stamp packet
+holds_in choice source content = false
 
 -- one of these choices does
 abbrev pub holds_any_in : List Choice → Option ℕ → Content → Bool

@@ -5,10 +5,6 @@ use Rattle.std.specs.List.{list_all}
 use Rattle.source_events.specs.declared.event.Event.{Event}
 use Rattle.source_events.specs.declared.packet.Packet.{Packet}
 
--- it holds for none of these events
-abbrev pub holds_for_none : (Event Packet → Bool) → List (Event Packet) → Bool
-holds_for_none rule es = list_all (λ e. not (rule e)) es
-
 -- The window is open after some events: there is one among them for which the first rule holds, such that the last
 -- holds neither for it nor for any event after it.
 pub record IsOpenAfter (first last : Event Packet → Bool) (es : List (Event Packet)) : Type 0 where
@@ -17,7 +13,7 @@ pub record IsOpenAfter (first last : Event Packet → Bool) (es : List (Event Pa
   pub between : List (Event Packet)
   pub parts : es ≡ front ++ opening ∷ between
   pub opens : first opening ≡ true
-  pub stays : holds_for_none last (opening ∷ between) ≡ true
+  pub stays : list_all (λ e. not (last e)) (opening ∷ between) ≡ true
 
 -- An event passes after those before it: the first rule holds for it, or for an earlier event such that the last holds
 -- neither for that event nor for any between the two.
@@ -27,7 +23,8 @@ Passes first last before e = (first e ≡ true) ⊎ IsOpenAfter first last befor
 -- the same, computed
 abbrev pub is_open_after : (Event Packet → Bool) → (Event Packet → Bool) → List (Event Packet) → Bool
 is_open_after first last [] = false
-is_open_after first last (e ∷ es) = first e && holds_for_none last (e ∷ es) || is_open_after first last es
+is_open_after first last (e ∷ es) =
+    first e && list_all (λ x. not (last x)) (e ∷ es) || is_open_after first last es
 
 abbrev pub passes : (Event Packet → Bool) → (Event Packet → Bool) → List (Event Packet) → Event Packet → Bool
 passes first last before e = first e || is_open_after first last before

@@ -1,8 +1,8 @@
 //! Choices of events.
 
-ghost use Rattle.std.specs.Prelude.{◌≡◌};
-ghost use Rattle.item_tap.specs.Choices.{is_hardware, is_stamp, is_of_kind, is_of_source, is_of_port, is_of_comparator};
-ghost use Rattle.item_tap.specs.Choices.{is_time, holds, holds_in};
+ghost use Rattle.std.specs.Prelude.{◌≡◌, ℕ, Option};
+ghost use Rattle.item_tap.specs.Choices.{is_stamp, is_of_kind, holds, holds_in};
+ghost use Rattle.item_tap.specs.declared.choice.Choice.TheVariants.{Source, Port, Comparator, Time};
 
 use crate::comparator::comparator_of;
 use crate::content::Content;
@@ -52,14 +52,6 @@ impl Rule for Choice {
     ghost holds = { holds };
 }
 
-/// Whether a packet is a hardware source packet.
-#[inline(always)]
-fn is_hardware(packet: &ItmPacket) -> bool
-    ensures { result ≡ is_hardware packet.now }
-{
-    matches!(packet, ItmPacket::Hardware { .. })
-}
-
 /// Whether a packet is a timestamp.
 #[inline(always)]
 pub fn is_stamp(packet: &ItmPacket) -> bool
@@ -78,8 +70,8 @@ impl Kind {
         ensures { result ≡ is_of_kind self content.now }
     {
         match (self, content) {
-            (Kind::Itm, Content::Itm(packet)) => !is_hardware(packet),
-            (Kind::Dwt, Content::Itm(packet)) => is_hardware(packet),
+            (Kind::Itm, Content::Itm(packet)) => !matches!(packet, ItmPacket::Hardware { .. }),
+            (Kind::Dwt, Content::Itm(packet)) => matches!(packet, ItmPacket::Hardware { .. }),
             (Kind::Stp, Content::Stp) => true,
             (Kind::Raw, Content::Raw) => true,
             (Kind::Trigger, Content::Trigger) => true,
@@ -91,7 +83,7 @@ impl Kind {
 /// Whether this comes from the source of this ID, and is no notice of its lock.
 #[inline(always)]
 fn is_of_source(id: SourceId, source: Option<SourceId>, content: &Content) -> bool
-    ensures { result ≡ is_of_source id source content.now }
+    ensures { result ≡ holds_in (Source id) source content.now }
 {
     !matches!(content, Content::Notice) && source == Some(id)
 }
@@ -99,7 +91,7 @@ fn is_of_source(id: SourceId, source: Option<SourceId>, content: &Content) -> bo
 /// Whether this was written to the stimulus port of this number.
 #[inline(always)]
 fn is_of_port(number: u8, content: &Content) -> bool
-    ensures { result ≡ is_of_port number content.now }
+    ensures { (source : Option ℕ) → result ≡ holds_in (Port number) source content.now }
 {
     match content {
         Content::Itm(ItmPacket::Software { port, .. }) => *port == number,
@@ -110,7 +102,7 @@ fn is_of_port(number: u8, content: &Content) -> bool
 /// Whether the DWT sent this at a match of the comparator of this number.
 #[inline(always)]
 fn is_of_comparator(number: u8, content: &Content) -> bool
-    ensures { result ≡ is_of_comparator number content.now }
+    ensures { (source : Option ℕ) → result ≡ holds_in (Comparator number) source content.now }
 {
     match content {
         Content::Itm(ItmPacket::Hardware { disc, size, .. }) => comparator_of(*disc, *size)
@@ -122,7 +114,7 @@ fn is_of_comparator(number: u8, content: &Content) -> bool
 /// Whether this is a timestamp of an ITM.
 #[inline(always)]
 fn is_time(content: &Content) -> bool
-    ensures { result ≡ is_time content.now }
+    ensures { (source : Option ℕ) → result ≡ holds_in Time source content.now }
 {
     match content {
         Content::Itm(packet) => is_stamp(packet),

@@ -20,7 +20,7 @@ use Rattle.itm_grammar.specs.declared.partial.Partial.{Partial}
 use Rattle.itm_grammar.specs.declared.partial.Partial.TheVariants.{Header, Zeros, Payload}
 use Rattle.itm_grammar.specs.Header.{class_of, is_proper_class}
 use Rattle.itm_grammar.specs.Spelling.{Spells, SpellsSource, why, reason_of, byte_count, bit_of, number, groups, more_bit, IsContinued, IsExtended, extended}
-use Rattle.itm_grammar.specs.Rule.{rule, begin, zeros_with, last, another_follows, most_bytes, source, first_stamp, second_stamp, count_of}
+use Rattle.itm_grammar.specs.Rule.{rule, begin, last, another_follows, most_bytes, source, second_stamp, count_of}
 use Rattle.itm_grammar.proofs.Counting.{counts}
 use Rattle.itm_grammar.proofs.Headers.{chosen, header_of, header_is, made}
 use Rattle.itm_grammar.proofs.Payloads.{from, says, value_from, last_of, added, payload_cases, payload_sound, payload_complete, Fills, last_ends, fills_count, count_fills, longer, fills_continued, continued_fills, value_number, value_groups, extension_filled, extension_fills, value_extended}
@@ -29,7 +29,14 @@ stop_whole : (v w : ItmPacket) (k : Partial → Walked Partial ItmPacket) (p : L
 stop_whole v w k [] e = (cc, refl)
 stop_whole v w k (b ∷ p) e = cc
 
+-- a first global timestamp of this many bytes, whose groups are this number
+abbrev pub first_stamp : ℕ → ℕ → ItmPacket
+first_stamp count value = GlobalFirst count (value % 2 ^ 26) ((value / 2 ^ 26) % 2 == 1) ((value / 2 ^ 27) % 2 == 1)
+
 -- bytes 00 and what ends them
+abbrev pub zeros_with : ℕ → ℕ → Next Partial ItmPacket
+zeros_with n b = rule (Zeros n) b
+
 pub zeros_cases : (n b : ℕ) →
     ((b ≡ 0) × (zeros_with n b ≡ Go (Zeros (n + 1)))) ⊎ ((b ≡ 128) × (5 ≤ n) × (zeros_with n b ≡ End Sync)) ⊎ (zeros_with n b ≡ Fail BadItmSync)
 zeros_cases n b = grind (arith, nat_tests)

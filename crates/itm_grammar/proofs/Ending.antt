@@ -13,8 +13,8 @@ use Rattle.itm_grammar.specs.declared.partial.Partial.TheVariants.{Payload}
 use Rattle.itm_grammar.specs.Header.{is_proper_class}
 use Rattle.itm_grammar.specs.Spelling.{byte_count}
 use Rattle.itm_grammar.specs.Proper.{IsProper}
-use Rattle.itm_grammar.specs.Rule.{rule, last, source, first_stamp, another_follows, digit, base_of, is_sound_payload, is_sound, StopsProperly}
-use Rattle.itm_grammar.proofs.Deciding.{below}
+use Rattle.itm_grammar.specs.Rule.{rule, last, source, another_follows, digit, base_of, is_sound_payload, is_sound, StopsProperly}
+use Rattle.itm_grammar.proofs.Deciding.{below, first_stamp}
 use Rattle.itm_grammar.proofs.Fitting.{parts, more_bytes, more_groups, fits_last}
 
 -- a choice by a test

@@ -9,10 +9,10 @@ use Rattle.itm_grammar.specs.declared.header.Class.TheVariants.{Zero, Overflow a
 use Rattle.itm_grammar.specs.declared.partial.Partial.{Partial}
 use Rattle.itm_grammar.specs.declared.partial.Partial.TheVariants.{Header, Zeros, Payload}
 use Rattle.itm_grammar.specs.Header.{class_of}
-use Rattle.itm_grammar.specs.Rule.{rule, begin, zeros_with, most_bytes}
+use Rattle.itm_grammar.specs.Rule.{rule, begin, most_bytes}
 use Rattle.itm_grammar.proofs.Headers.{header_is}
 use Rattle.itm_grammar.proofs.Payloads.{from, says}
-use Rattle.itm_grammar.proofs.Deciding.{Belongs, behind_header, zeros_cases}
+use Rattle.itm_grammar.proofs.Deciding.{Belongs, behind_header, zeros_with, zeros_cases}
 
 at_most_six : (c : Class) → most_bytes c ≤ 6
 at_most_six Zero = omega arith

@@ -31,18 +31,17 @@ class_by_high high =
 abbrev pub class_of_stamp : ℕ → Class
 class_of_stamp high = if high == 9 then GlobalFirst else (if high == 11 then GlobalSecond else Reserved)
 
--- by bits 1 and 0, and then by the low nibble: a source packet, Instrumentation or Hardware source by bit 2, with the
--- stimulus port or the discriminator ID in bits 7 to 3; the two above; else 8 or C, an Extension packet
-abbrev pub class_of_byte : ℕ → Class
-class_of_byte header =
-    if nat_lt 0 (header % 4) then Source ((header / 4) % 2 == 1) (header / 8) (size_of (header % 4))
+-- By bits 1 and 0, and then by the low nibble: a source packet, Instrumentation or Hardware source by bit 2, with the
+-- stimulus port or the discriminator ID in bits 7 to 3; the two above; else 8 or C, an Extension packet. What is no
+-- byte is no header (this project's profile).
+abbrev pub class_of : ℕ → Class
+class_of header =
+    if nat_lt header 256 then
+    (if nat_lt 0 (header % 4) then Source ((header / 4) % 2 == 1) (header / 8) (size_of (header % 4))
     else (if header % 16 == 0 then class_by_high (header / 16)
     else (if header % 16 == 4 then class_of_stamp (header / 16)
-    else Extension (nat_le 128 header) (header % 16 == 12) ((header / 16) % 8)))
-
--- what is no byte is no header (this project's profile)
-abbrev pub class_of : ℕ → Class
-class_of header = if nat_lt header 256 then class_of_byte header else Reserved
+    else Extension (nat_le 128 header) (header % 16 == 12) ((header / 16) % 8))))
+    else Reserved
 
 -- the numbers of a header's class fit their bits, and a short timestamp's is one of six
 abbrev pub is_proper_class : Class → Bool

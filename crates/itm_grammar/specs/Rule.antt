@@ -32,12 +32,6 @@ begin (Extended false dwt low) = End (Extension dwt low)
 begin (Extended true dwt low) = Go (Payload (Extended true dwt low) 0 0)
 begin Reserved = Fail ReservedHeader
 
--- a byte after this many bytes 00
-abbrev pub zeros_with : ℕ → ℕ → Next Partial ItmPacket
-zeros_with count b =
-    if b == 0x00 then Go (Zeros (count + 1))
-    else (if b == 0x80 && nat_le 5 count then End Sync else Fail BadItmSync)
-
 -- how many payload bytes a packet of this class may have
 abbrev pub most_bytes : Class → ℕ
 most_bytes (Source hardware number size) = byte_count size
@@ -69,11 +63,7 @@ abbrev pub source : Bool → ℕ → Size → ℕ → ItmPacket
 source true number size value = Hardware number size value
 source false number size value = Software number size value
 
--- a first global timestamp of this many bytes, whose groups are this number
-abbrev pub first_stamp : ℕ → ℕ → ItmPacket
-first_stamp count value = GlobalFirst count (value % 2 ^ 26) ((value / 2 ^ 26) % 2 == 1) ((value / 2 ^ 27) % 2 == 1)
-
--- a second one
+-- a second global timestamp of this many bytes, whose groups are this number
 abbrev pub second_stamp : ℕ → ℕ → Next Partial ItmPacket
 second_stamp count value =
     if count == 4 then End (GlobalSecond false (value % 2 ^ 22))
@@ -83,7 +73,10 @@ second_stamp count value =
 abbrev pub last : Class → ℕ → ℕ → ℕ → Next Partial ItmPacket
 last (Source hardware number size) count value b = End (source hardware number size value)
 last (LocalLong lateness) count value b = if nat_lt b 128 then End (Local lateness value) else Fail LongStamp
-last First count value b = if nat_lt b 128 then End (first_stamp count value) else Fail LongStamp
+last First count value b =
+    if nat_lt b 128
+    then End (GlobalFirst count (value % 2 ^ 26) ((value / 2 ^ 26) % 2 == 1) ((value / 2 ^ 27) % 2 == 1))
+    else Fail LongStamp
 last Second count value b = if nat_lt b 128 then second_stamp count value else Fail LongStamp
 last (Extended more dwt low) count value b = End (Extension dwt (low + 8 * value))
 last class count value b = Fail ReservedHeader
@@ -93,10 +86,12 @@ abbrev pub payload_with : Class → ℕ → ℕ → ℕ → Next Partial ItmPack
 payload_with class count value b =
     if another_follows class count b then Go (Payload class (count + 1) value) else last class (count + 1) value b
 
--- the rule: a header, a byte of a synchronisation, or a payload byte
+-- the rule: a header, a byte after this many bytes 00 of a synchronisation, or a payload byte
 abbrev pub rule : Partial → ℕ → Next Partial ItmPacket
 rule Header b = begin (class_of b)
-rule (Zeros count) b = zeros_with count b
+rule (Zeros count) b =
+    if b == 0x00 then Go (Zeros (count + 1))
+    else (if b == 0x80 && nat_le 5 count then End Sync else Fail BadItmSync)
 rule (Payload class count value) b = payload_with class count (value + digit class count b * base_of class ^ count) b
 
 -- how many bytes of the unfinished packet there are

@@ -1,9 +1,11 @@
 //! An unfinished packet, and one more byte of it.
 
-ghost use Rattle.std.specs.Prelude.{◌≡◌, ◌+◌, ◌*◌, ◌^◌, ◌<◌, ◌≤◌, true};
+ghost use Rattle.std.specs.Prelude.{◌≡◌, ◌+◌, ◌*◌, ◌/◌, ◌%◌, ◌^◌, ◌<◌, ◌≤◌, ◌==◌, true};
 ghost use Rattle.itm_grammar.specs.Header.{is_proper_class};
-ghost use Rattle.itm_grammar.specs.Rule.{rule, begin, zeros_with, payload_with, last, another_follows, source};
-ghost use Rattle.itm_grammar.specs.Rule.{first_stamp, second_stamp, digit, base_of, is_sound, is_sound_payload};
+ghost use Rattle.itm_grammar.specs.declared.packet.ItmPacket.TheVariants.{GlobalFirst};
+ghost use Rattle.itm_grammar.specs.declared.partial.Partial.TheVariants.{Zeros};
+ghost use Rattle.itm_grammar.specs.Rule.{rule, begin, payload_with, last, another_follows, source};
+ghost use Rattle.itm_grammar.specs.Rule.{second_stamp, digit, base_of, is_sound, is_sound_payload};
 ghost use Rattle.itm_grammar.specs.Rule.{IsSoundNext, StopsProperly, FitsLast, count_of, held_after};
 ghost use Rattle.trace_values.specs.declared.limits.TheConstants.{COUNT_ROOM};
 
@@ -95,7 +97,7 @@ fn begin(class: Class) -> Next<Partial, ItmPacket>
 #[inline(always)]
 fn zeros_with(count: u64, byte: u8) -> Next<Partial, ItmPacket>
     requires { count ≤ COUNT_ROOM }
-    ensures next { result ≡ zeros_with count byte }
+    ensures next { result ≡ rule (Zeros count) byte }
     ensures sound { IsSoundNext result }
 {
     if byte == 0 {
@@ -158,7 +160,8 @@ fn source(hardware: bool, number: u8, size: Size, value: u32) -> ItmPacket
 /// A first global timestamp of this many payload bytes: 26 bits of the time, clock change and wrap.
 #[inline(always)]
 fn first_stamp(count: u8, value: u64) -> ItmPacket
-    ensures { result ≡ first_stamp count value }
+    ensures { result ≡
+        GlobalFirst count (value % 2 ^ 26) ((value / 2 ^ 26) % 2 == 1) ((value / 2 ^ 27) % 2 == 1) }
 {
     ItmPacket::GlobalFirst {
         len: count,

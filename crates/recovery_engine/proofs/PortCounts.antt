@@ -22,7 +22,8 @@ use Rattle.deformatter.proofs.PortReadingLaws.{frames_have_runs}
 use Rattle.frame_grammar.specs.Port.{PortItem}
 use Rattle.frame_grammar.specs.Reading.{source_list}
 use Rattle.frame_grammar.specs.Runs.{HasRuns}
-use Rattle.source_counts.specs.Counts.{all_cells, bytes_of, frame_items, items_of, unattributed_of}
+use Rattle.source_counts.proofs.Whole.{all_cells}
+use Rattle.source_counts.specs.Counts.{bytes_of, frame_items, items_of, unattributed_of}
 use Rattle.source_counts.specs.declared.counts.Counts.{Counts}
 use Rattle.source_events.proofs.Merges.{same_or_not, test_other}
 use Rattle.source_events.specs.Runs.{runs_of, all_runs as runs_in_all}

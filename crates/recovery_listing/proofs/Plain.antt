@@ -4,7 +4,7 @@ use Rattle.std.proofs.Common.{◌≡◌, ℕ, zero, suc, ◌+◌, ◌-◌, List,
 use Rattle.std.proofs.Common.{length-append}
 use Rattle.std.proofs.Common.{drop, refl, sym, ◌∙◌, ap, append_assoc, arith, Bool, true, false, cond, Option, None}
 use Rattle.std.proofs.Common.{Some}
-use Rattle.std.specs.Prelude.{codes, decimal, slice_index, ◌==◌, ◌&&◌, not, nat_lt, ◌/◌, ◌%◌}
+use Rattle.std.specs.Prelude.{codes, decimal, slice_index, ◌==◌, ◌&&◌, not, nat_lt, if◌then◌else◌, ◌/◌, ◌%◌}
 use Rattle.std.specs.Cmp.Lexicographic.{pointwise}
 use Rattle.std.specs.List.{list_all}
 use Rattle.std.specs.Fmt.{digits, digits_onto, digit_glyph}
@@ -51,9 +51,9 @@ use Rattle.source_events.specs.Merge.{place_of}
 use Rattle.trace_text.specs.FaultText.{fault_line}
 use Rattle.trace_text.specs.HardwareText.{change_text, hardware_text}
 use Rattle.trace_text.specs.HexDigits.{hex_digits}
-use Rattle.trace_text.specs.ItemText.{bits_text, flag_text, item_text, lateness_text, owner_text}
-use Rattle.trace_text.specs.LineText.{at_text, event_line, half_text, source_text, what_text}
-use Rattle.trace_text.specs.StpText.{datum_text, known_text, mark_text, place_text, stamp_text, stp_text, width_text}
+use Rattle.trace_text.specs.ItemText.{flag_text, item_text, lateness_text}
+use Rattle.trace_text.specs.LineText.{at_text, event_line, source_text, what_text}
+use Rattle.trace_text.specs.StpText.{known_text, mark_text, place_text, stamp_text, stp_text, width_text}
 use Rattle.trace_text.specs.Values.{value_text}
 use Rattle.trace_text.specs.declared.remark.Remark.{Remark}
 use Rattle.trace_text.specs.declared.remark.Remark.TheVariants.{None as NoRemark, Clock, Time}
@@ -191,11 +191,11 @@ flag_plain : (b : Bool) → Plain (flag_text b)
 flag_plain true = record { is = refl }
 flag_plain false = record { is = refl }
 
-bits_plain : (b : Bool) → Plain (bits_text b)
+bits_plain : (wide : Bool) → Plain (if wide then codes "64" else codes "48")
 bits_plain true = record { is = refl }
 bits_plain false = record { is = refl }
 
-owner_plain : (b : Bool) → Plain (owner_text b)
+owner_plain : (dwt : Bool) → Plain (if dwt then codes "dwt" else codes "itm")
 owner_plain true = record { is = refl }
 owner_plain false = record { is = refl }
 
@@ -240,9 +240,10 @@ item_plain (GlobalFirst len value change wrap) =
     (join (decimal value) _ (number value) (word (codes " ") _ refl (join (flag_text change) _ (flag_plain change)
     (word (codes " ") _ refl (flag_plain wrap)))))))
 item_plain (GlobalSecond wide value) =
-    word (codes "global2 ") _ refl (join (bits_text wide) _ (bits_plain wide) (word (codes " ") _ refl (number value)))
+    word (codes "global2 ") _ refl (join (if wide then codes "64" else codes "48") _ (bits_plain wide)
+    (word (codes " ") _ refl (number value)))
 item_plain (Extension dwt value) =
-    word (codes "ext ") _ refl (join (owner_text dwt) _ (owner_plain dwt)
+    word (codes "ext ") _ refl (join (if dwt then codes "dwt" else codes "itm") _ (owner_plain dwt)
     (word (codes " ") _ refl (hex (to_be_bytes w32 value))))
 
 -- items of a system trace
@@ -268,7 +269,7 @@ stamp_plain (Natural time) = word (codes "n=") _ refl (number time)
 stamp_plain (Gray time) = word (codes "g=") _ refl (number time)
 stamp_plain (RawStamp size value) = word (codes "r=") _ refl (nibbles (nibble_count size) value)
 
-datum_plain : (w : Width) (value : ℕ) → Plain (datum_text w value)
+datum_plain : (w : Width) (value : ℕ) → Plain (width_text w ++ (codes " " ++ hex_digits (bits_of w / 4) value))
 datum_plain w value = join (width_text w) _ (width_plain w) (word (codes " ") _ refl (nibbles (bits_of w / 4) value))
 
 stp_plain : (item : StpItem) → Plain (stp_text item)
@@ -280,7 +281,8 @@ stp_plain (MasterError place code) =
 stp_plain (GlobalError code) = word (codes "gerr ") _ refl (hex (code ∷ []))
 stp_plain (Datum place width value marked stamp) =
     word (codes "data ") _ refl (join (place_text place) _ (place_plain place) (word (codes " ") _ refl
-    (join (datum_text width value) _ (datum_plain width value) (word (codes " ") _ refl
+    (join (width_text width ++ (codes " " ++ hex_digits (bits_of width / 4) value)) _ (datum_plain width value)
+    (word (codes " ") _ refl
     (join (mark_text marked) _ (mark_plain marked) (word (codes " ") _ refl (stamp_plain stamp)))))))
 stp_plain (Flag place stamp) =
     word (codes "flag ") _ refl (join (place_text place) _ (place_plain place)
@@ -300,7 +302,7 @@ what_plain (Said (Stp item)) = stp_plain item
 what_plain (Raw bytes) = word (codes "raw ") _ refl (hex bytes)
 what_plain (Trigger byte) = word (codes "trigger ") _ refl (hex (byte ∷ []))
 
-half_plain : (stp : Bool) (half : ℕ) → Plain (half_text stp half)
+half_plain : (stp : Bool) (half : ℕ) → Plain (if stp then codes "." ++ decimal half else [])
 half_plain true half = word (codes ".") _ refl (number half)
 half_plain false half = record { is = refl }
 

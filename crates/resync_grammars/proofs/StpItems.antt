@@ -10,7 +10,8 @@ use Rattle.resync_grammars.specs.Names.{Async, Plain, Stamped, None as NoStamp}
 use Rattle.trace_values.proofs.Decorating.{decorate_append}
 use Rattle.trace_clock.proofs.LastStamps.{after_itself, after_same}
 use Rattle.stp_grammar.specs.NextState.{next_version}
-use Rattle.stp_grammar.specs.Attribution.{version_in, master8_in, master16_in, channel8_in, channel16_in, stamp_in, last_given, begins_master, begins_channel, number_by, number_of, version_of, master_of, channel_of, keeps_word, last_word_of, place_of, stamp_by, stamp_of, item_with, item_of, attribute}
+use Rattle.stp_grammar.specs.Attribution.{version_in, master8_in, master16_in, channel8_in, channel16_in, stamp_in, last_given, begins_master, begins_channel, number_of, version_of, master_of, channel_of, keeps_word, last_word_of, place_of, stamp_by, item_with, item_of, attribute}
+use Rattle.stp_grammar.proofs.Told.{number_by, stamp_of}
 use Rattle.stp_grammar.proofs.Attributing.{version_more}
 use Rattle.resync_grammars.specs.Stp.{items_after, BeginsWithVersion, SplitAtVersion}
 

@@ -4,7 +4,8 @@ use Rattle.std.specs.Prelude.{Option, Some}
 use Rattle.std.specs.List.{AllByRecursion}
 use Rattle.resync_grammars.specs.Names.{InUnits, Place, Placed, units_of, Stream, Said, Kept, kept, by_unit, kept_if}
 use Rattle.resync_grammars.specs.Names.{decorate, carried, decorated, Order, Row, StpPacket, Async, Plain, Stamped}
-use Rattle.resync_grammars.specs.Names.{Start, None as NoStamp, StpItem, line_of, version_in, place_of, stamp_of}
+use Rattle.resync_grammars.specs.Names.{Start, None as NoStamp, StpItem, line_of, version_in, place_of}
+use Rattle.stp_grammar.proofs.Told.{stamp_of}
 use Rattle.resync_grammars.specs.Names.{item_with, item_of, attribute, Locks, IsRest}
 use Rattle.trace_values.proofs.Decorating.{decorate_append}
 use Rattle.stp_grammar.specs.declared.packet.Row.TheVariants.{Null, Master8, Channel8, Master16, Channel16, Version}

@@ -17,7 +17,7 @@ pub use Rattle.resync_rules.specs.Fronts.{BeginsAt, BeginsOnly, BeginsWith, Ends
 pub use Rattle.resync_rules.specs.Fronts.{Locks}
 pub use Rattle.resync_rules.specs.Syncing.{EndsOrFails, Syncs, said_last}
 pub use Rattle.stp_codec.specs.Reading.{items_at, items_in}
-pub use Rattle.stp_grammar.specs.Attribution.{attribute, item_of, item_with, place_of, stamp_of, version_in}
+pub use Rattle.stp_grammar.specs.Attribution.{attribute, item_of, item_with, place_of, version_in}
 pub use Rattle.stp_grammar.specs.Opcodes.{line_of}
 pub use Rattle.stp_grammar.specs.declared.item.Stamp.TheVariants.{None}
 pub use Rattle.stp_grammar.specs.declared.item.StpItem.{StpItem}

@@ -21,7 +21,8 @@ use Rattle.stp_grammar.specs.declared.item.Place.{Place as Origin}
 use Rattle.stp_grammar.specs.Shortest.{IsByRow}
 use Rattle.stp_grammar.specs.Spelling as stp
 use Rattle.stp_grammar.specs.Rule as stp_rule
-use Rattle.stp_grammar.specs.Attribution.{begins_master, place_of, stamp_of, item_with, attribute}
+use Rattle.stp_grammar.specs.Attribution.{begins_master, place_of, item_with, attribute}
+use Rattle.stp_grammar.proofs.Told.{stamp_of}
 use Rattle.stp_grammar.proofs.ShortSpellings.{by_row}
 use Rattle.stp_codec.specs.Reading as stp_reading
 use Rattle.source_events.specs.declared.packet.Packet.TheVariants.{Itm as ItmPacket, Stp as StpPacketOf}

@@ -6,12 +6,13 @@ use Rattle.std.specs.List.{sum_by}
 use Rattle.std.proofs.lemmas.List.{map-append, length-map}
 use Rattle.std.proofs.lemmas.List.Sums.{sum_by-append}
 use Rattle.resync_laws.specs.Names.{Cell, Place, Placed, byte_at, placed_from, units_of, Splits, Stream, Said}
-use Rattle.resync_laws.specs.Names.{FramesMode, Hunt, Aligned, Bare, names, cell, even_data, even_cells, odd_cells}
+use Rattle.resync_laws.specs.Names.{FramesMode, Hunt, Aligned, Bare, names, cell, even_data, even_cells}
 use Rattle.resync_laws.specs.Names.{cells_below, cells, id_after, PortItem, Full, Half, Frame, Spells, why, rule, start}
 use Rattle.resync_laws.specs.Names.{frames_of_items, framed, bare_cell, bare, port_reading, Event, What, Raw, Trigger}
 use Rattle.resync_laws.specs.Names.{joined, runs_of, all_runs, id_of, bytes_of, placed_run, last_at, list_of, told}
 use Rattle.resync_laws.specs.Names.{grown, merged_from, what_of, lifted, triggers, raw_events, raws, events, all_events}
 use Rattle.resync_laws.specs.Names.{later_place, later, of_sources}
+use Rattle.frame_grammar.proofs.Cells.{odd_cells}
 use Rattle.trace_values.proofs.Readings as readings
 use Rattle.frame_grammar.specs.Reading.{offsets_of, item_id, fulls_in, is_source, port_reading as grammar_reading}
 use Rattle.frame_grammar.proofs.Deciding.{port_decided}

@@ -3,7 +3,7 @@ pub use Rattle.deformatter.specs.PortReading.{PortReading, bare, bare_cell, cell
 pub use Rattle.deformatter.specs.PortReading.{port_reading}
 pub use Rattle.deformatter.specs.Reading.{PortStream, port_stream}
 pub use Rattle.deformatter.specs.Rising.{BytesRise}
-pub use Rattle.frame_grammar.specs.Frame.{cell, cells, cells_below, even_cells, even_data, id_after, names, odd_cells}
+pub use Rattle.frame_grammar.specs.Frame.{cell, cells, cells_below, even_cells, even_data, id_after, names}
 pub use Rattle.frame_grammar.specs.Port.{Frame, Full, Half, PortItem, Spells, rule, start, why}
 pub use Rattle.frame_grammar.specs.Reading.{halves_in, id_of_items, is_source, offsets_of}
 pub use Rattle.frame_grammar.specs.SourceBytes.{source_units}

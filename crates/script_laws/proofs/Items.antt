@@ -1,7 +1,7 @@
 -- The items of the table: the shape and the values of each, and that its row makes it of them, and no other.
 use Rattle.std.proofs.Common.{◌≡◌, ℕ, zero, suc, ◌-◌, ◌*◌, ◌/◌, ◌%◌, ◌<◌, ◌≤◌, ◌^◌, List, [], ◌∷◌, ◌++◌, refl, sym, ◌∙◌}
 use Rattle.std.proofs.Common.{ap, arith, append_assoc, Bool, true, false, Option, Some, decimal, codes, ◌==◌, nat_le}
-use Rattle.std.proofs.Common.{IsSome, rules}
+use Rattle.std.proofs.Common.{IsSome, rules, if◌then◌else◌}
 use Rattle.std.specs.Int.{to_be_bytes, w16, w32}
 use Rattle.hex.specs.Hex.{encode_lower}
 use Rattle.itm_grammar.specs.declared.packet.Size.{Size}
@@ -13,7 +13,7 @@ use Rattle.stp_grammar.specs.declared.packet.Width.{Width}
 use Rattle.stp_grammar.specs.declared.item.Place.{Place}
 use Rattle.stp_grammar.specs.declared.item.StpItem.TheVariants as stp
 use Rattle.trace_text.specs.Values.{value_text}
-use Rattle.trace_text.specs.ItemText.{item_text, flag_text, owner_text}
+use Rattle.trace_text.specs.ItemText.{item_text, flag_text}
 use Rattle.trace_text.proofs.HexNibbles.{encoded}
 use Rattle.script_text.specs.declared.shapes.Shape.TheVariants as shapes
 use Rattle.script_text.specs.declared.itm_shapes.ItmShape.TheVariants as itm_shapes
@@ -24,7 +24,7 @@ use Rattle.std.specs.Option.{ForSome}
 use Rattle.std.proofs.lemmas.Bool.Decides.{nat_tests}
 use Rattle.std.proofs.lemmas.Fmt.{decimal_digit}
 use Rattle.script_laws.specs.Names.{Two, Four, ItmPacket, IsInRange, Enter, DwtItem, bits_of, StpItem, IsProperItem}
-use Rattle.script_laws.specs.Names.{hex_digits, hardware_text, known_text, place_text, width_text, datum_text}
+use Rattle.script_laws.specs.Names.{hex_digits, hardware_text, known_text, place_text, width_text}
 use Rattle.script_laws.specs.Names.{mark_text, stamp_text, stp_text, Shape, ItmShape, DwtShape, StpShape, Item, Itm}
 use Rattle.script_laws.specs.Names.{Dwt, Stp, Raw, IsProper, first_bits, second_bits, packet, Stamp, Natural, Gray}
 use Rattle.script_laws.specs.Names.{text_of, IsSaidItm, IsSaidStp, IsSayable, Known, Fits, Values, AllFit, fields_in}
@@ -322,7 +322,7 @@ itm_joined (itm.GlobalFirst len value change wrap) h =
     ∙ ap (λ d. codes "global1 " ++ (decimal len ++ (32 ∷ (decimal value ++ (32 ∷ (decimal (bit change) ++ (32 ∷ d)))))))
     (flag_is wrap)
 itm_joined (itm.Extension dwt value) h =
-    ap (λ d. codes "ext " ++ (owner_text dwt ++ (codes " " ++ d))) (encoded 4 value)
+    ap (λ d. codes "ext " ++ ((if dwt then codes "dwt" else codes "itm") ++ (codes " " ++ d))) (encoded 4 value)
 itm_joined packet h = refl
 
 pub dwt_joined : (item : DwtItem) → IsInRange item → hardware_text item ≡ joined (dwt_words item)
@@ -346,7 +346,8 @@ place_joined : (place : Place) (rest : List ℕ) → place_text place ++ (32 ∷
     ++ (32 ∷ (known_text place.channel ++ (32 ∷ rest)))
 place_joined place rest = append_assoc (known_text place.master) (32 ∷ known_text place.channel) (32 ∷ rest)
 
-datum_joined : (width : Width) (value : ℕ) (rest : List ℕ) → datum_text width value ++ (32 ∷ rest) ≡ width_text width
+datum_joined : (width : Width) (value : ℕ) (rest : List ℕ) →
+    (width_text width ++ (32 ∷ hex_digits (bits_of width / 4) value)) ++ (32 ∷ rest) ≡ width_text width
     ++ (32 ∷ (hex_digits (bits_of width / 4) value ++ (32 ∷ rest)))
 datum_joined width value rest = append_assoc (width_text width) (32 ∷ hex_digits (bits_of width / 4) value) (32 ∷ rest)
 

@@ -87,7 +87,7 @@ pub use Rattle.trace_funnel.specs.Order.{are_apart}
 pub use Rattle.trace_funnel.specs.declared.turns.Turns.{Turns}
 pub use Rattle.trace_text.specs.HardwareText.{hardware_text}
 unfoldable pub use Rattle.trace_text.specs.HexDigits.{hex_digits}
-pub use Rattle.trace_text.specs.StpText.{datum_text, known_text, mark_text, place_text, stamp_text, stp_text}
+pub use Rattle.trace_text.specs.StpText.{known_text, mark_text, place_text, stamp_text, stp_text}
 pub use Rattle.trace_text.specs.StpText.{width_text}
 pub use Rattle.trace_values.specs.Placed.{Place, Placed, placed, units_of}
 pub use Rattle.trace_values.specs.Stream.{Kept, Said, kept}

@@ -14,5 +14,5 @@ pub use Rattle.stp_grammar.specs.declared.item.Place.{Place}
 pub use Rattle.stp_grammar.specs.declared.item.Stamp.{Stamp}
 pub use Rattle.stp_grammar.specs.declared.item.StpItem.{StpItem}
 pub use Rattle.stp_grammar.specs.declared.packet.Width.{Width}
-pub use Rattle.trace_text.specs.ItemText.{bits_text, item_text, lateness_text, owner_text}
+pub use Rattle.trace_text.specs.ItemText.{item_text, lateness_text}
 pub use Rattle.trace_text.specs.StpText.{known_text, mark_text, stamp_text, stp_text, width_text}

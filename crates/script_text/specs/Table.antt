@@ -6,7 +6,7 @@ use Rattle.std.specs.Prelude.{◌&&◌, ◌||◌, ◌==◌, nat_lt, nat_le, if�
 use Rattle.std.specs.Option.{ForSome}
 use Rattle.hex.specs.Hex.{encode_lower, IsBytes}
 use Rattle.script_text.specs.Names.{first_bits, second_bits, byte_count, Size, ItmPacket, DwtItem, bits_of}
-use Rattle.script_text.specs.Names.{IsProperStamp, Stamp, Place, StpItem, lateness_text, bits_text, owner_text}
+use Rattle.script_text.specs.Names.{IsProperStamp, Stamp, Place, StpItem, lateness_text}
 use Rattle.script_text.specs.Names.{known_text, width_text, mark_text, stamp_text, number_named}
 use Rattle.itm_grammar.specs.declared.packet.Size.TheVariants.{One, Two, Four as FourBytes}
 use Rattle.itm_grammar.specs.declared.packet.ItmPacket.TheVariants as itm
@@ -175,10 +175,12 @@ itm_row GlobalFirst =
     row (codes "global1") (Says (Upto 4) ∷ (Says (Upto (2 ^ 26 - 1)) ∷ (Says (Upto 1) ∷ (Says (Upto 1) ∷ []))))
     (λ v. first_checked v.0 v.1.0 (v.1.1.0 == 1) (v.1.1.1.0 == 1))
 itm_row (GlobalSecond wide) =
-    row (codes "global2") (Word (bits_text wide) ∷ (Says (Upto (2 ^ second_bits wide - 1)) ∷ []))
+    row (codes "global2")
+    (Word (if wide then codes "64" else codes "48") ∷ (Says (Upto (2 ^ second_bits wide - 1)) ∷ []))
     (λ v. Some (itm.GlobalSecond wide v.0))
 itm_row (Extension dwt) =
-    row (codes "ext") (Word (owner_text dwt) ∷ (Says (Digits 8) ∷ [])) (λ v. Some (itm.Extension dwt v.0))
+    row (codes "ext") (Word (if dwt then codes "dwt" else codes "itm") ∷ (Says (Digits 8) ∷ []))
+    (λ v. Some (itm.Extension dwt v.0))
 
 abbrev pub dwt_row : DwtShape → Row DwtItem
 dwt_row Counters = row (codes "counters") (Says (Digits 2) ∷ []) (λ v. counters_within v.0)

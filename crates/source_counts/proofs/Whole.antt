@@ -1,7 +1,7 @@
 -- The counts of a whole frame, run by run.
 use Rattle.std.proofs.Common.{◌≡◌, ◌≢◌, ℕ, zero, suc, ◌+◌, ◌-◌, ◌*◌, ◌/◌, ◌<◌, ◌≤◌, ◌⊎◌, inl, inr, List, [], ◌∷◌, ◌++◌, length, get_or, refl, sym, ◌∙◌, ap, subst, arith, Bool, true, false, cond, Option, Some, None, append_assoc, append-nil, add-one}
 use Rattle.std.specs.Prelude.{◌==◌, ◌&&◌, not, is_none, min, slice_index}
-use Rattle.std.specs.List.{count_by}
+use Rattle.std.specs.List.{count_by, flat_map}
 use Rattle.std.proofs.lemmas.Bool.Decides.{nat_tests}
 use Rattle.std.proofs.lemmas.List.{length-append, length_push}
 use Rattle.std.proofs.lemmas.List.Elements.{filter-append}
@@ -11,12 +11,13 @@ use Rattle.std.proofs.Math.Seq.{take-append_seam}
 use Rattle.trace_values.specs.declared.cell.Cell.{Cell}
 use Rattle.frame_grammar.specs.Reading.{is_source, source_list}
 use Rattle.frame_grammar.specs.Runs.{HasRuns}
-use Rattle.frame_grammar.specs.Frame.{names, aux_bit, even_data, even_cells, odd_cells, cells_below, cells, cell, id_at, run_at, IsInForce}
+use Rattle.frame_grammar.specs.Frame.{names, aux_bit, even_data, even_cells, cells_below, cells, cell, id_at, run_at, IsInForce}
+use Rattle.frame_grammar.proofs.Cells.{odd_cells}
 use Rattle.frame_grammar.proofs.Looks.{passes, passes_odd, names_now, defers, names_next}
 use Rattle.frame_grammar.proofs.Runs.{take_has_runs, cells_have_runs}
 use Rattle.trace_values.specs.Cells.{source_id}
 use Rattle.source_counts.specs.declared.source_counts.SourceCounts.{SourceCounts}
-use Rattle.source_counts.specs.Counts.{all_cells, bytes_of, items_of, unattributed_of, frame_items, null_source, trigger_source}
+use Rattle.source_counts.specs.Counts.{bytes_of, items_of, unattributed_of, frame_items, null_source, trigger_source}
 use Rattle.source_counts.specs.Adding.{byte_by, item_by, run_bytes, run_items}
 use Rattle.source_counts.specs.Kept.{HasBytes, HasItems, total_of}
 use Rattle.source_counts.proofs.Counting.{begins, IsBehind, behind_cell, bytes_push, items_push, unattributed_push}
@@ -248,6 +249,10 @@ module _ (frame offsets : List ℕ) (id : Option ℕ) where
       let l7 = subst (λ (m : ℕ). IsLazy old now (cells_below frame offsets id m) source (run_at frame (2 * m)) n) e l in
       let whole : cells frame offsets id ≡ cs = ap (λ (x : List Cell). cs ++ x) (even_named 7 p) ∙ append-nil cs in
       subst (λ (c : List Cell). IsLazy old new c None (run_at frame 14 + 1) 0) (sym whole) (lazy_flush old now new cs source None (run_at frame 14) n f l7)
+
+-- the cells of all frames
+abbrev pub all_cells : List (List Cell) → List Cell
+all_cells frames = flat_map (λ cells. cells) frames
 
 -- with a whole frame
 module _ (old new : SourceCounts) (frames : List (List Cell)) (cs : List Cell) (run : ℕ) (l : IsLazy old new cs None run 0) where

@@ -6,10 +6,6 @@ use Rattle.std.specs.List.{flat_map, count_by, sum_by, list_any, range_with_len}
 use Rattle.trace_values.specs.declared.cell.Cell.{Cell}
 use Rattle.frame_grammar.specs.Reading.{is_source, source_list}
 
--- the cells of all frames
-abbrev pub all_cells : List (List Cell) → List Cell
-all_cells frames = flat_map (λ cells. cells) frames
-
 -- the null source, and the trigger source
 abbrev pub null_source : ℕ
 null_source = 0
@@ -17,9 +13,9 @@ null_source = 0
 abbrev pub trigger_source : ℕ
 trigger_source = 125
 
--- the bytes of a source: its cells
+-- the bytes of a source: its cells in all frames
 abbrev pub bytes_of : ℕ → List (List Cell) → ℕ
-bytes_of id frames = length (source_list id (all_cells frames))
+bytes_of id frames = length (source_list id (flat_map (λ cells. cells) frames))
 
 -- some cell has this source and this run
 abbrev pub has_run : ℕ → List Cell → ℕ → Bool
@@ -41,4 +37,4 @@ items_of id frames = sum_by (frame_items id) frames
 
 -- the unattributed bytes: the cells without a source
 abbrev pub unattributed_of : List (List Cell) → ℕ
-unattributed_of frames = count_by (λ c. is_none c.id) (all_cells frames)
+unattributed_of frames = count_by (λ c. is_none c.id) (flat_map (λ cells. cells) frames)

@@ -15,7 +15,8 @@ use Rattle.stp_grammar.specs.declared.packet.StpPacket.TheVariants.{Async, Plain
 use Rattle.stp_grammar.specs.declared.attribution.Attribution.{Attribution}
 use Rattle.stp_grammar.specs.Attributed.{Stands, kept_place}
 use Rattle.stp_grammar.specs.Proper.{IsProper}
-use Rattle.stp_grammar.specs.Attribution.{version_in, master8_in, master16_in, channel8_in, channel16_in, last_given, begins_master, begins_channel, number_by, number_of, version_of, master_of, channel_of, stamp_in, keeps_word, last_word_of, place_of, stamp_by, stamp_of}
+use Rattle.stp_grammar.specs.Attribution.{version_in, master8_in, master16_in, channel8_in, channel16_in, last_given, begins_master, begins_channel, number_of, version_of, master_of, channel_of, stamp_in, keeps_word, last_word_of, place_of, stamp_by}
+use Rattle.stp_grammar.proofs.Told.{number_by, stamp_of}
 use Rattle.stp_grammar.specs.NextState.{next_number, next_version, next_master, next_channel, word_with_stamp, next_last, Keeps}
 
 any_found : (test : StpPacket → Bool) (ps : List StpPacket) (p : StpPacket) → test p ≡ true → list_any test (ps ++ p ∷ []) ≡ true

@@ -20,7 +20,8 @@ use Rattle.stp_grammar.specs.declared.item.StpItem.{StpItem}
 use Rattle.stp_grammar.specs.declared.item.StpItem.TheVariants.{Async as AsyncItem, Version as VersionItem, MasterError as MasterErrorItem, GlobalError as GlobalErrorItem, Datum as DatumItem, Flag as FlagItem, Trigger as TriggerItem, Frequency as FrequencyItem, NullStamp as NullStampItem}
 use Rattle.stp_grammar.specs.Opcodes.{line_of}
 use Rattle.stp_grammar.specs.Proper.{IsProper, IsProperPlace, IsProperStamp, IsProperItem, bits_of}
-use Rattle.stp_grammar.specs.Attribution.{master8_in, master16_in, channel8_in, channel16_in, stamp_in, last_given, begins_master, begins_channel, number_by, number_of, version_of, master_of, channel_of, keeps_word, last_word_of, place_of, stamp_by, stamp_of, item_with, item_of}
+use Rattle.stp_grammar.specs.Attribution.{master8_in, master16_in, channel8_in, channel16_in, stamp_in, last_given, begins_master, begins_channel, number_of, version_of, master_of, channel_of, keeps_word, last_word_of, place_of, stamp_by, item_with, item_of}
+use Rattle.stp_grammar.proofs.Told.{number_by, stamp_of}
 
 -- what a packet of this kind tells has 16 bits
 abbrev Under : Option ℕ → Type 0

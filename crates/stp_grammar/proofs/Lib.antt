@@ -16,6 +16,7 @@ pub mod Counting
 pub mod Holding
 pub mod Beginning
 pub mod Numbers
+pub mod Told
 pub mod Attributing
 pub mod Fitting
 pub mod ShortSpellings

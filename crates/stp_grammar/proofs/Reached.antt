@@ -11,10 +11,10 @@ use Rattle.stp_grammar.specs.declared.packet.StpPacket.TheVariants.{Async, Plain
 use Rattle.stp_grammar.specs.declared.partial.Partial.{Partial}
 use Rattle.stp_grammar.specs.declared.partial.Partial.TheVariants.{Start, Second, Third, Run, Payload, Size, Word}
 use Rattle.stp_grammar.specs.Opcodes.{line_of, Opening, More, Refused}
-use Rattle.stp_grammar.specs.Rule.{rule, first_opening, second_opening, third_opening, number_with, begin, opened, run_with, after_payload, size_with}
+use Rattle.stp_grammar.specs.Rule.{rule, first_opening, second_opening, third_opening, number_with, begin, opened, after_payload, size_with}
 use Rattle.stp_grammar.proofs.Openings.{IsRow, first_cases, second_cases, third_cases}
 use Rattle.stp_grammar.proofs.Choices.{not_zero, still_under, some_word}
-use Rattle.stp_grammar.proofs.Runs.{run_cases}
+use Rattle.stp_grammar.proofs.Runs.{run_with, run_cases}
 use Rattle.stp_grammar.proofs.StampWalks.{size_cases}
 use Rattle.stp_grammar.proofs.Walking.{from}
 

@@ -1,13 +1,19 @@
 -- A run of nibbles F, and what ends it.
 use Rattle.std.proofs.Common.{◌≡◌, ℕ, zero, suc, ◌+◌, ◌≤◌, List, [], ◌∷◌, ◌++◌, replicate, sym, ◌∙◌, ap, ◌⊎◌, inl, inr, arith}
 use Rattle.std.proofs.lemmas.Bool.Decides.{nat_tests}
-use Rattle.stp_grammar.specs.Names.{BadAsync, Go, End, Fail, Whole}
+use Rattle.stp_grammar.specs.Names.{BadAsync, Next, Go, End, Fail, Whole}
 use Rattle.stp_grammar.specs.declared.packet.Order.{Order}
+use Rattle.stp_grammar.specs.declared.packet.Order.TheVariants.{Msn}
 use Rattle.stp_grammar.specs.declared.packet.StpPacket.{StpPacket}
 use Rattle.stp_grammar.specs.declared.packet.StpPacket.TheVariants.{Async}
+use Rattle.stp_grammar.specs.declared.partial.Partial.{Partial}
 use Rattle.stp_grammar.specs.declared.partial.Partial.TheVariants.{Run}
-use Rattle.stp_grammar.specs.Rule.{run_with}
+use Rattle.stp_grammar.specs.Rule.{rule}
 use Rattle.stp_grammar.proofs.Walking.{from, says, end_whole}
+
+-- a nibble after a run of F; the order of nibbles says nothing of it
+abbrev pub run_with : ℕ → ℕ → Next Partial StpPacket
+run_with count b = rule Msn (Run count) b
 
 module _ (order : Order) where
   -- a run of F, and what ends it

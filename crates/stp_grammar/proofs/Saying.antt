@@ -14,7 +14,8 @@ use Rattle.stp_grammar.specs.declared.attribution.Attribution.{Attribution}
 use Rattle.std.specs.Option.{ForSome}
 use Rattle.stp_grammar.specs.Opcodes.{line_of, row_at}
 use Rattle.stp_grammar.specs.Proper.{IsProper, IsProperItem}
-use Rattle.stp_grammar.specs.Attribution.{item_with, item_of, place_of, stamp_of, stamp_by}
+use Rattle.stp_grammar.specs.Attribution.{item_with, item_of, place_of, stamp_by}
+use Rattle.stp_grammar.proofs.Told.{stamp_of}
 use Rattle.stp_grammar.specs.Attributed.{Stands, kept_place}
 use Rattle.stp_grammar.specs.declared.said.Said.{Said}
 use Rattle.stp_grammar.specs.Said.{packet_at, row_packet, said_item, IsProperSaid}

@@ -5,7 +5,7 @@ use Rattle.std.specs.Prelude.{ℕ, ◌+◌, ◌*◌, ◌/◌, ◌%◌, List, [],
 use Rattle.std.specs.Prelude.{Option, None, Some, unwrap_or}
 use Rattle.std.specs.Option.{is_some, option_or}
 use Rattle.std.specs.List.{list_any, filter_map, last_or, after_last}
-use Rattle.stp_grammar.specs.Names.{natural_of, SizedWord, sized, last_word}
+use Rattle.stp_grammar.specs.Names.{natural_of, SizedWord, last_word}
 use Rattle.stp_grammar.specs.declared.packet.Row.{Row}
 use Rattle.stp_grammar.specs.declared.packet.Row.TheVariants.{Null, Master8, MasterError, Channel8, Datum, Flag}
 use Rattle.stp_grammar.specs.declared.packet.Row.TheVariants.{Master16, GlobalError, Channel16, Version, NullStamp}
@@ -45,7 +45,7 @@ channel16_in p = None
 
 -- the timestamp of a packet
 abbrev pub stamp_in : StpPacket → Option SizedWord
-stamp_in (Stamped row payload size word) = Some (sized size word)
+stamp_in (Stamped row payload size word) = Some (record { size = size; word = word })
 stamp_in p = None
 
 -- the last value that h gives of the packets
@@ -59,18 +59,18 @@ begins_master p = is_some (version_in p)
 abbrev pub begins_channel : StpPacket → Bool
 begins_channel p = begins_master p || (is_some (master8_in p) || is_some (master16_in p))
 
--- A number of 16 bits, by the payloads of the last packet that tells all of them, and of the last that tells all or the
--- low 8: the high 8 bits are those of the one, and the low 8 those of the other. Where there is no such packet they are
--- 0; but where no packet began the number, and none told all of it, it is unknown.
-abbrev pub number_by : Bool → Option ℕ → Option ℕ → Option ℕ
-number_by begun whole low =
-    if begun || is_some whole then Some (unwrap_or whole 0 / 256 * 256 + unwrap_or low 0 % 256) else None
-
--- the number that packets tell after the last one that begins it anew, or from the start if there is none
+-- A number of 16 bits that packets tell after the last one that begins it anew, or from the start if there is none. Its
+-- high 8 bits are those of the last packet that tells all of it, and its low 8 those of the last that tells all of it or
+-- the low 8. Where there is no such packet they are 0; but where no packet began the number, and none told all of it, it
+-- is unknown.
 abbrev pub number_of : (StpPacket → Bool) → (StpPacket → Option ℕ) → (StpPacket → Option ℕ) → List StpPacket → Option ℕ
 number_of begins whole low packets =
     let later = after_last begins packets in
-    number_by (list_any begins packets) (last_given whole later) (last_given (λ p. option_or (whole p) (low p)) later)
+    let high = last_given whole later in
+    let last = last_given (λ p. option_or (whole p) (low p)) later in
+    if list_any begins packets || is_some high
+    then Some (unwrap_or high 0 / 256 * 256 + unwrap_or last 0 % 256)
+    else None
 
 -- the version, the master and the channel in force after these packets; each may be unknown
 unfoldable pub version_of : List StpPacket → Option ℕ
@@ -98,12 +98,9 @@ stamp_by None last size word = Raw size word
 stamp_by (Some version) last size word =
     if version == 3 then Natural last else (if version == 4 then Gray (natural_of last) else Raw size word)
 
--- the place and the timestamp of an item whose packet is the last of these
+-- the place of an item whose packet is the last of these
 abbrev pub place_of : List StpPacket → Place
 place_of packets = record { master = master_of packets; channel = channel_of packets }
-
-abbrev pub stamp_of : List StpPacket → ℕ → ℕ → Stamp
-stamp_of packets size word = stamp_by (version_of packets) (last_word_of packets) size word
 
 -- a packet's item by its row, with this place, timestamp and payload: masters, channels and NULL are none
 abbrev pub item_with : Place → Stamp → Row → ℕ → Option StpItem
@@ -125,7 +122,8 @@ item_with place stamp (Frequency stamped) v = Some (FrequencyItem v stamp)
 abbrev pub item_of : List StpPacket → StpPacket → Option StpItem
 item_of packets Async = Some AsyncItem
 item_of packets (Plain row v) = item_with (place_of packets) NoStamp row v
-item_of packets (Stamped row v size word) = item_with (place_of packets) (stamp_of packets size word) row v
+item_of packets (Stamped row v size word) =
+    item_with (place_of packets) (stamp_by (version_of packets) (last_word_of packets) size word) row v
 
 -- the item of one more packet after these, and all packets with it
 abbrev pub attribute : List StpPacket → StpPacket → Option StpItem × List StpPacket

@@ -46,12 +46,6 @@ opened (Whole row) state = begin row
 opened More state = Go state
 opened Refused state = Fail Unsupported
 
--- a nibble after this many nibbles F, at least two
-abbrev pub run_with : ℕ → ℕ → Next Partial StpPacket
-run_with count b =
-    if b == 15 then Go (Run (count + 1))
-    else (if b == 0 && nat_le 21 count then End Async else Fail BadAsync)
-
 -- a payload nibble after this many, which make this number with it
 abbrev pub payload_with : Row → ℕ → ℕ → Next Partial StpPacket
 payload_with row count value =
@@ -69,12 +63,14 @@ word_with row payload size count word =
     if count + 1 == nibble_count size then End (Stamped row payload size word)
     else Go (Word row payload size (count + 1) word)
 
--- the rule: a nibble of an opcode, of a run of nibbles F, of a payload, or of a timestamp
+-- the rule: a nibble of an opcode, of ASYNC after this many nibbles F, of a payload, or of a timestamp
 abbrev pub rule : Order → Partial → ℕ → Next Partial StpPacket
 rule order Start b = opened (first_opening b) Second
 rule order Second b = if b == 15 then Go (Run 2) else opened (second_opening b) Third
 rule order Third b = opened (third_opening b) Third
-rule order (Run count) b = run_with count b
+rule order (Run count) b =
+    if b == 15 then Go (Run (count + 1))
+    else (if b == 0 && nat_le 21 count then End Async else Fail BadAsync)
 rule order (Payload row count value) b = payload_with row count (number_with order count value b)
 rule order (Size row payload) b = size_with row payload b
 rule order (Word row payload size count word) b = word_with row payload size count (number_with order count word b)

@@ -2,12 +2,12 @@
 
 ghost use Rattle.std.specs.Prelude.{◌≡◌, ◌<◌, ◌≤◌, ◌+◌, ◌*◌, ◌^◌, true};
 ghost use Rattle.stp_grammar.specs.declared.packet.Order.TheVariants.{Msn};
-ghost use Rattle.stp_grammar.specs.declared.partial.Partial.TheVariants.{Start, Second, Third};
+ghost use Rattle.stp_grammar.specs.declared.partial.Partial.TheVariants.{Start, Second, Third, Run};
 ghost use Rattle.stp_grammar.specs.Opcodes.{line_of, Opening, head_of};
 ghost use Rattle.stp_grammar.specs.Names.{nibble_count};
 ghost use Rattle.trace_values.specs.declared.limits.TheConstants.{NIBBLE_ROOM};
 ghost use Rattle.stp_grammar.specs.Rule.{rule, begin, after_payload, opened};
-ghost use Rattle.stp_grammar.specs.Rule.{run_with, payload_with, size_with};
+ghost use Rattle.stp_grammar.specs.Rule.{payload_with, size_with};
 ghost use Rattle.stp_grammar.specs.Rule.{word_with, is_sound, IsSoundNext, count_of};
 ghost use Rattle.stp_grammar.specs.Rule.{held_after};
 
@@ -134,7 +134,7 @@ fn third(nibble: u8) -> Next<Partial, StpPacket>
 fn run_with(count: u64, nibble: u8) -> Next<Partial, StpPacket>
     requires some { 2 ≤ count }
     requires room { count ≤ NIBBLE_ROOM }
-    ensures next { result ≡ run_with count nibble }
+    ensures next { result ≡ rule Msn (Run count) nibble }
     ensures sound { IsSoundNext result }
 {
     if nibble == 15 {

@@ -1,34 +1,38 @@
 -- One more global timestamp.
 use Rattle.std.proofs.Common.{◌≡◌, ◌≢◌, ℕ, zero, suc, ◌+◌, ◌*◌, ◌/◌, ◌^◌, ◌<◌, ◌≤◌, List, [], ◌∷◌, ◌++◌, refl, sym, ◌∙◌, ap, subst, arith, Bool, true, false, cond}
 use Rattle.std.specs.Prelude.{◌==◌, ◌||◌, Option, None, Some, unwrap_or, option_map}
-use Rattle.std.specs.List.{list_any, after_last}
+use Rattle.std.specs.List.{list_any, filter_map, last_or}
 use Rattle.std.specs.Int.{bit_at}
 use Rattle.std.proofs.lemmas.Bool.Decides.{nat_tests}
 use Rattle.std.proofs.lemmas.List.Folds.{list_any-append}
 use Rattle.std.proofs.lemmas.Nat.Bits.{bit_at-lt}
 use Rattle.std.proofs.lemmas.Bool.{lt-ltb, le-ltb}
-use Rattle.trace_clock.specs.GlobalTime.{GlobalStamp, First, Second, first_bits, is_whole, is_wrap, carried, second_value, low_bit, low_part, high_part, known_low}
+use Rattle.trace_clock.specs.GlobalTime.{GlobalStamp, First, Second, first_bits, is_whole, carried, high_said, low_part, high_part, known_low}
 use Rattle.trace_clock.proofs.DigitSums.{number, number_same, number_of_digits, number_replaced}
-use Rattle.trace_clock.proofs.LastStamps.{last_given, given, not_given, after_itself, after_same}
+use Rattle.trace_clock.proofs.LastStamps.{given, not_given}
 
 -- the bits from 26 on
 pub high_told : (stamps : List GlobalStamp) (value : ℕ) → high_part (stamps ++ Second value ∷ []) ≡ Some value
 unfolding high_part
 high_told stamps value =
-    ap (last_given second_value) (after_same is_wrap stamps (Second value) refl)
-    ∙ given second_value (after_last is_wrap stamps) (Second value) value refl
+    ap (λ o. unwrap_or o None) (given high_said stamps (Second value) (Some value) refl)
 
 pub high_lost : (stamps : List GlobalStamp) (len value : ℕ) (wrap : Bool) → wrap ≡ true → high_part (stamps ++ First len value wrap ∷ []) ≡ None
 unfolding high_part
-high_lost stamps len value wrap e = ap (last_given second_value) (after_itself is_wrap stamps (First len value wrap) e)
+high_lost stamps len value wrap e =
+    let s : high_said (First len value wrap) ≡ Some None = ap (λ t. high_said (First len value t)) e in
+    ap (λ o. unwrap_or o None) (given high_said stamps (First len value wrap) None s)
 
 pub high_kept : (stamps : List GlobalStamp) (len value : ℕ) (wrap : Bool) → wrap ≡ false → high_part (stamps ++ First len value wrap ∷ []) ≡ high_part stamps
 unfolding high_part
 high_kept stamps len value wrap e =
-    ap (last_given second_value) (after_same is_wrap stamps (First len value wrap) e)
-    ∙ not_given second_value (after_last is_wrap stamps) (First len value wrap) refl
+    let s : high_said (First len value wrap) ≡ None = ap (λ t. high_said (First len value t)) e in
+    ap (λ o. unwrap_or o None) (not_given high_said stamps (First len value wrap) s)
 
 -- a bit under 26
+abbrev low_bit : List GlobalStamp → ℕ → ℕ
+low_bit stamps bit = bit_at (unwrap_or (last_or None (filter_map (carried bit) stamps)) 0) bit
+
 bit_told : (stamps : List GlobalStamp) (len value : ℕ) (wrap : Bool) (b : ℕ) → b < first_bits len → low_bit (stamps ++ First len value wrap ∷ []) b ≡ bit_at value b
 bit_told stamps len value wrap b h =
     let e : carried b (First len value wrap) ≡ Some value = ap (λ t. cond t (Some value) None) (lt-ltb b (first_bits len) h) in

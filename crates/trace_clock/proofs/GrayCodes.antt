@@ -4,7 +4,7 @@ use Rattle.std.specs.Int.{bit_at, sum_through}
 use Rattle.std.specs.Int.RustNames.{bit_xor}
 use Rattle.std.proofs.lemmas.Nat.{shr-shr, xor_lt, shr_le}
 use Rattle.std.proofs.lemmas.Nat.Bits.{bit_at-lt, bit_at_xor, same_from_bits_below, bit_at_above}
-use Rattle.trace_clock.specs.GrayCode.{parity_from, natural_of, gray_of}
+use Rattle.trace_clock.specs.GrayCode.{natural_of, gray_of}
 use Rattle.trace_clock.proofs.DigitSums.{number, number_lt, digit_of_number}
 
 -- a number made of bits has these
@@ -49,6 +49,10 @@ doubled g x m h i =
   where
     by : (x y z a b c d r : ℕ) → r ≡ (x + y) % 2 → y ≡ z → x ≡ a % 2 → z ≡ b % 2 → d ≡ a + c → b ≡ c → r ≡ d % 2
     by x y z a b c d r p q e f s t = omega arith
+
+-- the parity of the bits from i up
+abbrev parity_from : ℕ → ℕ → ℕ
+parity_from gray i = sum_through (λ j. bit_at gray (i + j)) 63 % 2
 
 parity_lt : (g i : ℕ) → parity_from g i < 2
 parity_lt g i = omega arith

@@ -1,18 +1,22 @@
 -- One more timestamp after the others.
 use Rattle.std.proofs.Common.{◌≡◌, ℕ, zero, suc, ◌+◌, ◌*◌, ◌/◌, ◌%◌, ◌^◌, ◌<◌, ◌≤◌, List, [], ◌∷◌, ◌++◌, refl, sym, ◌∙◌, ap, subst, arith, true, false, cond}
-use Rattle.std.specs.Prelude.{◌↔◌, nat_eq, IsTrue, None, Some, unwrap_or}
+use Rattle.std.specs.Prelude.{◌↔◌, nat_eq, nat_lt, if◌then◌else◌, IsTrue, Option, None, Some, unwrap_or}
 use Rattle.std.proofs.lemmas.Bool.Decides.{nat_tests}
 use Rattle.std.proofs.lemmas.Nat.{pow-add, pow_pos, shr_split, shr_high}
 use Rattle.std.proofs.Math.Nat.{mod-lt, div-eq_of_lt}
 use Rattle.std.proofs.lemmas.Bool.{lt-ltb, le-ltb}
 use Rattle.trace_clock.specs.GrayCode.{natural_of, gray_of}
-use Rattle.trace_clock.specs.LastWord.{SizedWord, sized, nibble_count, WordFits, nibble_at, long_word, last_nibble, last_word, next_word, IsLeast}
+use Rattle.trace_clock.specs.LastWord.{SizedWord, sized, nibble_count, WordFits, nibble_at, last_nibble, last_word, next_word, IsLeast}
 use Rattle.trace_clock.proofs.DigitSums.{number, number_same, number_of_digits, number_replaced, number_lt, digit_of_number}
 use Rattle.trace_clock.proofs.GrayCodes.{to_and_fro, fro_and_to}
 use Rattle.trace_clock.proofs.LastStamps.{given, not_given}
 
 none : (x y w : ℕ) → w < 1 → x ≡ y → x ≡ y / 16 ^ 0 * 16 ^ 0 + w
 none x y w h e = omega arith
+
+-- the word of a timestamp that has more than k nibbles
+abbrev long_word : ℕ → SizedWord → Option ℕ
+long_word k stamp = if nat_lt k (nibble_count stamp.size) then Some stamp.word else None
 
 nibble_lt : (stamps : List SizedWord) (k : ℕ) → last_nibble stamps k < 16
 nibble_lt stamps k = omega arith

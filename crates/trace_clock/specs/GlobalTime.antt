@@ -2,9 +2,9 @@
 -- appendix D4 'Debug ITM and DWT Packet Protocol', section D4.2 'Packet descriptions', 'Global timestamp packets':
 -- GTS1, whose Wrap says that the high bits changed, and GTS2, which has them). What the time is between them is this
 -- project's profile.
-use Rattle.std.specs.Prelude.{◌≡◌, ℕ, ◌+◌, ◌*◌, ◌^◌, ◌<◌, ◌≤◌, List, Bool, false, ◌==◌, nat_lt, if◌then◌else◌, Option}
-use Rattle.std.specs.Prelude.{None, Some, option_map, unwrap_or}
-use Rattle.std.specs.List.{list_any, filter_map, last_or, after_last}
+use Rattle.std.specs.Prelude.{◌≡◌, ℕ, ◌+◌, ◌*◌, ◌^◌, ◌<◌, ◌≤◌, List, Bool, true, false, ◌==◌, nat_lt, if◌then◌else◌}
+use Rattle.std.specs.Prelude.{Option, None, Some, option_map, unwrap_or}
+use Rattle.std.specs.List.{list_any, filter_map, last_or}
 use Rattle.std.specs.Int.{bit_at, sum_through}
 
 -- a global timestamp packet: a first one of len payload bytes, whose wrap says that the bits from 26 on
@@ -31,36 +31,30 @@ abbrev pub is_whole : GlobalStamp → Bool
 is_whole (First len value wrap) = len == 4
 is_whole (Second value) = false
 
--- one that says that the bits from 26 on changed
-abbrev pub is_wrap : GlobalStamp → Bool
-is_wrap (First len value wrap) = wrap
-is_wrap (Second value) = false
-
 -- the value of a first timestamp that carries this bit of the time
 abbrev pub carried : ℕ → GlobalStamp → Option ℕ
 carried bit (First len value wrap) = if nat_lt bit (first_bits len) then Some value else None
 carried bit (Second value) = None
 
--- the value of a second timestamp
-abbrev pub second_value : GlobalStamp → Option ℕ
-second_value (First len value wrap) = None
-second_value (Second value) = Some value
+-- what a timestamp says of the bits from 26 on: a wrap that they are unknown, and a second one which they are
+abbrev pub high_said : GlobalStamp → Option (Option ℕ)
+high_said (First len value true) = Some None
+high_said (First len value false) = None
+high_said (Second value) = Some (Some value)
 
--- a bit of the time under 26: that of the last first timestamp that carries it, or 0 where there is none
-abbrev pub low_bit : List GlobalStamp → ℕ → ℕ
-low_bit stamps bit = bit_at (unwrap_or (last_or None (filter_map (carried bit) stamps)) 0) bit
-
--- bits 0 to 25 of the time, as a number
+-- bits 0 to 25 of the time, as a number: each is that of the last first timestamp that carries it, or 0 where there is
+-- none
 unfoldable pub low_part : List GlobalStamp → ℕ
-low_part stamps = sum_through (λ bit. low_bit stamps bit * 2 ^ bit) 25
+low_part stamps =
+    sum_through (λ bit. bit_at (unwrap_or (last_or None (filter_map (carried bit) stamps)) 0) bit * 2 ^ bit) 25
 
 -- the same, where a whole first timestamp has come
 abbrev pub known_low : List GlobalStamp → Option ℕ
 known_low stamps = if list_any is_whole stamps then Some (low_part stamps) else None
 
--- the bits from 26 on, as a number: the value of the last second timestamp, if there is one after the last wrap
+-- the bits from 26 on, as a number, by the last timestamp that says something of them
 unfoldable pub high_part : List GlobalStamp → Option ℕ
-high_part stamps = last_or None (filter_map second_value (after_last is_wrap stamps))
+high_part stamps = unwrap_or (last_or None (filter_map high_said stamps)) None
 
 -- the time, which is unknown before the first whole first timestamp, and from the start or a wrap to the next
 -- second one

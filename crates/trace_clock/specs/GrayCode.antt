@@ -3,13 +3,9 @@
 use Rattle.std.specs.Prelude.{ℕ, ◌+◌, ◌*◌, ◌%◌, ◌^◌}
 use Rattle.std.specs.Int.{bit_at, sum_through}
 
--- the parity of the bits from i up
-abbrev pub parity_from : ℕ → ℕ → ℕ
-parity_from gray i = sum_through (λ j. bit_at gray (i + j)) 63 % 2
-
 -- the natural number of a Gray number: its bit i is the parity of the Gray number's bits from i up
 unfoldable pub natural_of : ℕ → ℕ
-natural_of gray = sum_through (λ i. parity_from gray i * 2 ^ i) 63
+natural_of gray = sum_through (λ i. sum_through (λ j. bit_at gray (i + j)) 63 % 2 * 2 ^ i) 63
 
 -- the Gray number of a natural one: its bit i is 1 where bits i and i + 1 differ
 unfoldable pub gray_of : ℕ → ℕ

@@ -1,6 +1,6 @@
 -- The words of STP timestamps, and the last word by the list of all timestamps so far: this project's profile of the
 -- timestamps of the MIPI System Trace Protocol, version 2.
-use Rattle.std.specs.Prelude.{◌≡◌, ℕ, ◌+◌, ◌*◌, ◌/◌, ◌%◌, ◌^◌, ◌<◌, List, [], ◌∷◌, ◌++◌, Bool, Option, None, Some}
+use Rattle.std.specs.Prelude.{◌≡◌, ℕ, ◌+◌, ◌*◌, ◌/◌, ◌%◌, ◌^◌, ◌<◌, List, [], ◌∷◌, ◌++◌, Bool, None, Some}
 use Rattle.std.specs.Prelude.{nat_lt, ◌==◌, if◌then◌else◌, unwrap_or}
 use Rattle.std.specs.List.{filter_map, last_or}
 use Rattle.std.specs.Int.{sum_through}
@@ -26,13 +26,11 @@ WordFits size word = (size < 15) × (word < 16 ^ nibble_count size)
 abbrev pub nibble_at : ℕ → ℕ → ℕ
 nibble_at n k = n / 16 ^ k % 16
 
--- the word of a timestamp that has more than k nibbles
-abbrev pub long_word : ℕ → SizedWord → Option ℕ
-long_word k stamp = if nat_lt k (nibble_count stamp.size) then Some stamp.word else None
-
 -- nibble k of the last word: that of the last timestamp whose word has more than k nibbles, or 0 where there is none
 abbrev pub last_nibble : List SizedWord → ℕ → ℕ
-last_nibble stamps k = nibble_at (unwrap_or (last_or None (filter_map (long_word k) stamps)) 0) k
+last_nibble stamps k =
+    let longer = filter_map (λ stamp. if nat_lt k (nibble_count stamp.size) then Some stamp.word else None) stamps in
+    nibble_at (unwrap_or (last_or None longer) 0) k
 
 -- the last word, of 16 nibbles
 unfoldable pub last_word : List SizedWord → ℕ

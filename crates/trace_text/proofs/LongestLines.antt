@@ -44,12 +44,12 @@ use Rattle.source_events.specs.declared.tails.SourceTail.{SourceTail}
 use Rattle.trace_clock.specs.LastWord.{nibble_count}
 use Rattle.trace_text.specs.Values.{value_text}
 use Rattle.trace_text.specs.HardwareText.{change_text, hardware_text}
-use Rattle.trace_text.specs.ItemText.{lateness_text, flag_text, bits_text, owner_text, item_text}
+use Rattle.trace_text.specs.ItemText.{lateness_text, flag_text, item_text}
 use Rattle.trace_text.specs.HexDigits.{hex_digits}
 use Rattle.trace_text.specs.StpText.{known_text, width_text, mark_text, stamp_text, stp_text}
 use Rattle.trace_text.specs.declared.remark.Remark.{Remark}
 use Rattle.trace_text.specs.declared.remark.Remark.TheVariants.{None as NoRemark, Clock, Time}
-use Rattle.trace_text.specs.LineText.{doubted, half_text, source_text, what_text, remark_text, event_line, itm_event, stp_event, raw_event}
+use Rattle.trace_text.specs.LineText.{doubted, source_text, what_text, remark_text, event_line, itm_event, stp_event, raw_event}
 use Rattle.trace_text.specs.Printable.{IsProperWhat, IsNone, SuitsPacket, Suits, HasSource, IsPrintable}
 use Rattle.trace_text.specs.FaultText.{fault_line}
 use Rattle.trace_text.specs.Lengths.{HasDigits, IsShortWhat, IsShortSource, IsShortRemark, IsShort, IsShortFault}
@@ -82,10 +82,10 @@ lateness l = search rules
 flag : (b : Bool) → length (flag_text b) ≤ 1
 flag b = search rules
 
-bits : (wide : Bool) → length (bits_text wide) ≤ 2
+bits : (wide : Bool) → length (if wide then codes "64" else codes "48") ≤ 2
 bits wide = search rules
 
-owner : (dwt : Bool) → length (owner_text dwt) ≤ 3
+owner : (dwt : Bool) → length (if dwt then codes "dwt" else codes "itm") ≤ 3
 owner dwt = search rules
 
 -- a first global timestamp has at most 26 bits, and a second one 38
@@ -188,7 +188,7 @@ rest (Said (Stp i)) (Some id) r p u e a b c = omega (arith, stp i p, nothing r u
 rest (Raw bytes) s r p u e a b c = omega (arith, source s b, length-encode_with lower_digits bytes, nothing r u)
 rest (Trigger byte) s r p u e a b c = omega (arith, source s b, code byte, nothing r u)
 
-half : (s : Bool) (h : ℕ) → HasDigits 3 h → length (half_text s h) ≤ 4
+half : (s : Bool) (h : ℕ) → HasDigits 3 h → length (if s then codes "." ++ decimal h else []) ≤ 4
 half s h l = grind arith
 
 -- the line of an event

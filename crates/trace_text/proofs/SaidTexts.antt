@@ -17,7 +17,7 @@ use Rattle.stp_grammar.specs.Proper.{IsProperItem}
 use Rattle.stp_grammar.specs.Attribution.{item_with}
 use Rattle.trace_text.specs.HexDigits.{hex_digits}
 use Rattle.trace_text.specs.Lengths.{HasDigits}
-use Rattle.trace_text.specs.LineText.{half_text, source_text}
+use Rattle.trace_text.specs.LineText.{source_text}
 use Rattle.trace_text.specs.StpText.{place_text, stamp_text, stp_text}
 use Rattle.trace_text.specs.SaidText.{is_told, is_written, word_of, word_at, place_at, width_at, value_at, mark_at, stamp_at, said_text, said_line}
 use Rattle.trace_text.proofs.HexNibbles.{encoded}
@@ -81,11 +81,11 @@ version_only place stamp Version v w e = refl
 
 -- a line by its parts
 pub line_by : (at half id : ℕ) (o : Option StpItem) → is_some o ≡ true →
-    decimal at ++ (half_text true half ++ ((codes " " ++ (source_text (Some id) ++ codes " ")) ++ (said_text o ++ codes "\n"))) ≡ said_line at half id o
+    decimal at ++ ((codes "." ++ decimal half) ++ ((codes " " ++ (source_text (Some id) ++ codes " ")) ++ (said_text o ++ codes "\n"))) ≡ said_line at half id o
 line_by at half id None e = cc
 line_by at half id (Some item) e =
-    ap (λ (l : List ℕ). decimal at ++ (half_text true half ++ (32 ∷ l))) (append_assoc (decimal id) (codes " ") (stp_text item ++ codes "\n"))
-    ∙ sym (append_assoc (decimal at) (half_text true half) (32 ∷ (decimal id ++ (codes " " ++ (stp_text item ++ codes "\n")))))
+    ap (λ (l : List ℕ). decimal at ++ ((codes "." ++ decimal half) ++ (32 ∷ l))) (append_assoc (decimal id) (codes " ") (stp_text item ++ codes "\n"))
+    ∙ sym (append_assoc (decimal at) ((codes "." ++ decimal half)) (32 ∷ (decimal id ++ (codes " " ++ (stp_text item ++ codes "\n")))))
 
 -- the longest
 pub line_most : (at half id : ℕ) (o : Option StpItem) → ForSome o (λ item. IsProperItem item) → HasDigits 20 at → HasDigits 3 half → HasDigits 3 id →

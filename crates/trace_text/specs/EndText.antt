@@ -22,10 +22,6 @@ kind_text Stp = codes "stp"
 abbrev pub rest_text : ℕ → ℕ → List ℕ
 rest_text skipped tail = codes " skipped " ++ (decimal skipped ++ (codes " tail " ++ decimal tail))
 
--- `end N`: how many bytes were read
-abbrev pub end_line : ℕ → List ℕ
-end_line bytes = codes "end " ++ (decimal bytes ++ codes "\n")
-
 -- `port MODE skipped S tail T unattributed U`
 abbrev pub port_line : PortMode → ℕ → ℕ → ℕ → List ℕ
 port_line mode skipped tail unattributed =
@@ -38,10 +34,8 @@ source_line s =
     decimal s.id ++ (codes " " ++ (kind_text s.kind ++ (codes " " ++ (mode_text s.mode
     ++ (rest_text s.skipped s.tail ++ codes "\n")))))
 
-abbrev pub source_lines : List SourceTail → List ℕ
-source_lines tails = flat_map source_line tails
-
--- all lines at the end of a capture
+-- all lines at the end of a capture: `end N`, how many bytes were read, and those of the port and its sources
 abbrev pub tails_text : Tails → List ℕ
 tails_text t =
-    end_line t.bytes ++ (port_line t.mode t.skipped t.tail t.unattributed ++ source_lines t.sources)
+    (codes "end " ++ (decimal t.bytes ++ codes "\n"))
+    ++ (port_line t.mode t.skipped t.tail t.unattributed ++ flat_map source_line t.sources)

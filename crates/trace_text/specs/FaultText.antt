@@ -10,12 +10,8 @@ use Rattle.trace_text.specs.LineText.{at_text, source_text}
 abbrev pub told : Fault → Place × Reason
 told fault = (record { at = fault.at; half = fault.half }, fault.reason)
 
--- `R NAME`, and the end of the line
-abbrev pub reason_text : Reason → List ℕ
-reason_text reason = decimal (number_of reason) ++ (codes " " ++ (name_of reason ++ codes "\n"))
-
 -- `fault AT SOURCE R NAME`, of a fault with its source; whether that is an STP source
 abbrev pub fault_line : Bool → Place × (Reason × Option ℕ) → List ℕ
 fault_line stp fault =
     codes "fault " ++ (at_text stp fault.0 ++ (codes " " ++ (source_text fault.1.1
-    ++ (codes " " ++ reason_text fault.1.0))))
+    ++ (codes " " ++ (decimal (number_of fault.1.0) ++ (codes " " ++ (name_of fault.1.0 ++ codes "\n")))))))

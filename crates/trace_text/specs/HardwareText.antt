@@ -14,10 +14,6 @@ change_text Enter = codes " enter"
 change_text Exit = codes " exit"
 change_text Return = codes " return"
 
--- `cmp C`, and a word after it
-abbrev pub comparator_text : ℕ → List ℕ → List ℕ
-comparator_text comparator word = codes "cmp " ++ (decimal comparator ++ word)
-
 -- `counters HH`, `exception N C`, `pc H`, `asleep`, `cmp C pc H`, `cmp C addr H`,
 -- `cmp C read uS V`, `cmp C write uS V`, `hw D uS V`
 abbrev pub hardware_text : DwtItem → List ℕ
@@ -25,9 +21,12 @@ hardware_text (Counters counters) = codes "counters " ++ encode_lower (counters 
 hardware_text (Exception number change) = codes "exception " ++ (decimal number ++ change_text change)
 hardware_text (Sample pc) = codes "pc " ++ encode_lower (to_be_bytes w32 pc)
 hardware_text Asleep = codes "asleep"
-hardware_text (MatchPc comparator pc) = comparator_text comparator (codes " pc ") ++ encode_lower (to_be_bytes w32 pc)
+hardware_text (MatchPc comparator pc) =
+    (codes "cmp " ++ (decimal comparator ++ codes " pc ")) ++ encode_lower (to_be_bytes w32 pc)
 hardware_text (MatchAddress comparator low) =
-    comparator_text comparator (codes " addr ") ++ encode_lower (to_be_bytes w16 low)
-hardware_text (Read comparator size value) = comparator_text comparator (codes " read ") ++ value_text size value
-hardware_text (Written comparator size value) = comparator_text comparator (codes " write ") ++ value_text size value
+    (codes "cmp " ++ (decimal comparator ++ codes " addr ")) ++ encode_lower (to_be_bytes w16 low)
+hardware_text (Read comparator size value) =
+    (codes "cmp " ++ (decimal comparator ++ codes " read ")) ++ value_text size value
+hardware_text (Written comparator size value) =
+    (codes "cmp " ++ (decimal comparator ++ codes " write ")) ++ value_text size value
 hardware_text (Other disc size value) = codes "hw " ++ (decimal disc ++ (codes " " ++ value_text size value))

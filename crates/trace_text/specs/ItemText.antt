@@ -1,5 +1,5 @@
 -- The texts of items, as the listing has them.
-use Rattle.std.specs.Prelude.{ℕ, List, ◌++◌, codes, decimal, Bool, true, false}
+use Rattle.std.specs.Prelude.{ℕ, List, ◌++◌, codes, decimal, Bool, true, false, if◌then◌else◌}
 use Rattle.std.specs.Int.{to_be_bytes, w32}
 use Rattle.hex.specs.Hex.{encode_lower}
 use Rattle.itm_grammar.specs.declared.packet.Lateness.{Lateness}
@@ -21,18 +21,8 @@ abbrev pub flag_text : Bool → List ℕ
 flag_text true = codes "1"
 flag_text false = codes "0"
 
--- how many bits a second global stamp's time has
-abbrev pub bits_text : Bool → List ℕ
-bits_text true = codes "64"
-bits_text false = codes "48"
-
--- whose an extension is
-abbrev pub owner_text : Bool → List ℕ
-owner_text true = codes "dwt"
-owner_text false = codes "itm"
-
 -- `sync`, `overflow`, `port P uS V`, the text of what a hardware packet means, `local L D`,
--- `global1 LEN V C W`, `global2 BITS V`, `ext OWNER V`
+-- `global1 LEN V C W`, `global2 BITS V` with the bits of its time, `ext OWNER V` with whose it is
 abbrev pub item_text : ItmPacket → List ℕ
 item_text Sync = codes "sync"
 item_text Overflow = codes "overflow"
@@ -42,6 +32,8 @@ item_text (Local lateness delta) = codes "local " ++ (lateness_text lateness ++ 
 item_text (GlobalFirst len value change wrap) =
     codes "global1 " ++ (decimal len ++ (codes " " ++ (decimal value
     ++ (codes " " ++ (flag_text change ++ (codes " " ++ flag_text wrap))))))
-item_text (GlobalSecond wide value) = codes "global2 " ++ (bits_text wide ++ (codes " " ++ decimal value))
+item_text (GlobalSecond wide value) =
+    codes "global2 " ++ ((if wide then codes "64" else codes "48") ++ (codes " " ++ decimal value))
 item_text (Extension dwt value) =
-    codes "ext " ++ (owner_text dwt ++ (codes " " ++ encode_lower (to_be_bytes w32 value)))
+    codes "ext " ++ ((if dwt then codes "dwt" else codes "itm")
+    ++ (codes " " ++ encode_lower (to_be_bytes w32 value)))

@@ -1,5 +1,5 @@
 -- The lines of what the sources and the port gave.
-use Rattle.std.specs.Prelude.{ℕ, ◌-◌, List, [], ◌∷◌, ◌++◌, codes, decimal, length, take, Bool, true, false, Option}
+use Rattle.std.specs.Prelude.{ℕ, ◌-◌, List, [], ◌∷◌, ◌++◌, codes, decimal, length, take, Bool, Option, if◌then◌else◌}
 use Rattle.std.specs.Prelude.{Some, None}
 use Rattle.hex.specs.Hex.{encode_lower}
 use Rattle.itm_grammar.specs.declared.packet.ItmPacket.{ItmPacket}
@@ -16,29 +16,20 @@ use Rattle.trace_text.specs.StpText.{stp_text}
 use Rattle.trace_text.specs.declared.remark.Remark.{Remark}
 use Rattle.trace_text.specs.declared.remark.Remark.TheVariants.{None as NoRemark, Clock, Time}
 
--- `.H`, the half of the byte, which only the units of an STP source have
-abbrev pub half_text : Bool → ℕ → List ℕ
-half_text true half = codes "." ++ decimal half
-half_text false half = []
-
--- `AT`, or `AT.H` for an STP source
+-- `AT`, or `AT.H` for an STP source, whose units alone are halves of bytes
 abbrev pub at_text : Bool → Place → List ℕ
-at_text stp place = decimal place.at ++ half_text stp place.half
+at_text stp place = decimal place.at ++ (if stp then codes "." ++ decimal place.half else [])
 
 -- `port`, or the source's number
 abbrev pub source_text : Option ℕ → List ℕ
 source_text None = codes "port"
 source_text (Some id) = decimal id
 
--- a packet of either kind
-abbrev pub packet_text : Packet → List ℕ
-packet_text (Itm packet) = item_text packet
-packet_text (Stp item) = stp_text item
-
--- `locked N`, after N skipped units; a packet; `raw` and the bytes; `trigger HH`
+-- `locked N`, after N skipped units; a packet of either kind; `raw` and the bytes; `trigger HH`
 abbrev pub what_text : What Packet → List ℕ
 what_text (Locked skipped) = codes "locked " ++ decimal skipped
-what_text (Said packet) = packet_text packet
+what_text (Said (Itm packet)) = item_text packet
+what_text (Said (Stp item)) = stp_text item
 what_text (Raw bytes) = codes "raw " ++ encode_lower bytes
 what_text (Trigger byte) = codes "trigger " ++ encode_lower (byte ∷ [])
 

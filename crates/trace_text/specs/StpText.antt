@@ -30,10 +30,6 @@ width_text Sixteen = codes "u16"
 width_text ThirtyTwo = codes "u32"
 width_text SixtyFour = codes "u64"
 
--- `uB V`: the value in as many hexadecimal digits as the datum has nibbles
-abbrev pub datum_text : Width → ℕ → List ℕ
-datum_text width value = width_text width ++ (codes " " ++ hex_digits (bits_of width / 4) value)
-
 -- whether a datum is marked
 abbrev pub mark_text : Bool → List ℕ
 mark_text true = codes "m"
@@ -47,14 +43,15 @@ stamp_text (Gray time) = codes "g=" ++ decimal time
 stamp_text (Raw size word) = codes "r=" ++ hex_digits (nibble_count size) word
 
 -- `async`, `version N`, `merr M C HH`, `gerr HH`, `data M C uB V K T`, `flag M C T`, `trig HH T`, `freq N T`,
--- `nullts T`
+-- `nullts T`; `uB V` is the value in as many hexadecimal digits as the datum has nibbles
 abbrev pub stp_text : StpItem → List ℕ
 stp_text Async = codes "async"
 stp_text (Version version) = codes "version " ++ decimal version
 stp_text (MasterError place code) = codes "merr " ++ (place_text place ++ (codes " " ++ encode_lower (code ∷ [])))
 stp_text (GlobalError code) = codes "gerr " ++ encode_lower (code ∷ [])
 stp_text (Datum place width value marked stamp) =
-    codes "data " ++ (place_text place ++ (codes " " ++ (datum_text width value
+    codes "data " ++ (place_text place
+    ++ (codes " " ++ ((width_text width ++ (codes " " ++ hex_digits (bits_of width / 4) value))
     ++ (codes " " ++ (mark_text marked ++ (codes " " ++ stamp_text stamp))))))
 stp_text (Flag place stamp) = codes "flag " ++ (place_text place ++ (codes " " ++ stamp_text stamp))
 stp_text (Trigger code stamp) = codes "trig " ++ (encode_lower (code ∷ []) ++ (codes " " ++ stamp_text stamp))

@@ -1,7 +1,7 @@
 //! The lines at the end.
 
-ghost use Rattle.std.specs.Prelude.{◌≡◌, ◌+◌, ◌*◌, ◌≤◌, ◌++◌, length, codes};
-ghost use Rattle.trace_text.specs.EndText.{mode_text, kind_text, rest_text, end_line, port_line, source_line};
+ghost use Rattle.std.specs.Prelude.{◌≡◌, ◌+◌, ◌*◌, ◌≤◌, ◌++◌, length, codes, decimal};
+ghost use Rattle.trace_text.specs.EndText.{mode_text, kind_text, rest_text, port_line, source_line};
 ghost use Rattle.trace_text.specs.EndText.{tails_text};
 ghost use Rattle.trace_text.specs.Puts.{Puts};
 
@@ -68,7 +68,7 @@ fn put_rest(room: &mut [u8], from: usize, skipped: u64, tail: u64) -> usize
 }
 
 impl Text for EndLine {
-    ghost text = { λ l. end_line l.bytes };
+    ghost text = { λ l. codes "end " ++ (decimal l.bytes ++ codes "\n") };
 
     fn put(&self, room: &mut [u8], from: usize) -> usize {
         let from = put_count(room, from, b"end ", self.bytes);
@@ -120,7 +120,7 @@ fn put_source_end(outlet: &mut Outlet, source: &SourceTail)
 /// Puts the first lines at the end of a capture.
 fn put_port_ends(outlet: &mut Outlet, tails: &Tails)
     requires room { length outlet.old + 2 * TEXT_ROOM ≤ OUTLET_ROOM }
-    ensures lines { outlet.new ≡ outlet.old ++ (end_line tails.now.bytes
+    ensures lines { outlet.new ≡ outlet.old ++ ((codes "end " ++ (decimal tails.now.bytes ++ codes "\n"))
         ++ port_line tails.now.mode tails.now.skipped tails.now.tail tails.now.unattributed) }
     ensures bound { length outlet.new ≤ length outlet.old + 127 }
 {

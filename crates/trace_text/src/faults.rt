@@ -1,8 +1,9 @@
 //! The line of a fault.
 
-ghost use Rattle.std.specs.Prelude.{◌≡◌, ◌+◌, ◌≤◌, ◌++◌, length};
+ghost use Rattle.std.specs.Prelude.{◌≡◌, ◌+◌, ◌≤◌, ◌++◌, length, codes, decimal};
+ghost use Rattle.trace_values.specs.Faults.{number_of, name_of};
 ghost use Rattle.source_events.specs.Report.{stop_of};
-ghost use Rattle.trace_text.specs.FaultText.{reason_text, fault_line};
+ghost use Rattle.trace_text.specs.FaultText.{fault_line};
 ghost use Rattle.trace_text.specs.Puts.{Puts};
 
 use crate::lengths::short_stop;
@@ -24,7 +25,8 @@ pub struct FaultLine {
 /// Puts the reason's number and name, and the line's end: `R NAME`.
 fn put_reason(room: &mut [u8], from: usize, reason: Reason) -> usize
     requires room { from + PART_ROOM ≤ length room.old }
-    ensures { Puts room.old room.new from result PART_ROOM (reason_text reason) }
+    ensures { Puts room.old room.new from result PART_ROOM
+        (decimal (number_of reason) ++ (codes " " ++ (name_of reason ++ codes "\n"))) }
 {
     let from = put_short(room, from, reason.number());
     let from = put_byte(room, from, b' ');

@@ -1,7 +1,7 @@
 //! The texts of hardware packets, by what they mean.
 
 ghost use Rattle.std.specs.Prelude.{◌≡◌, ◌+◌, ◌≤◌, ◌++◌, length, codes, decimal};
-ghost use Rattle.trace_text.specs.HardwareText.{change_text, comparator_text, hardware_text};
+ghost use Rattle.trace_text.specs.HardwareText.{change_text, hardware_text};
 ghost use Rattle.trace_text.specs.Puts.{Puts};
 
 use crate::items::put_source;
@@ -16,7 +16,8 @@ use dwt_packets::{Change, DwtItem};
 fn put_comparator(room: &mut [u8], from: usize, comparator: u8, word: &str) -> usize
     requires few { length word.now ≤ WORD_ROOM }
     requires room { from + PART_ROOM ≤ length room.old }
-    ensures { Puts room.old room.new from result PART_ROOM (comparator_text comparator word.now) }
+    ensures { Puts room.old room.new from result PART_ROOM
+        (codes "cmp " ++ (decimal comparator ++ word.now)) }
 {
     let from = put_bytes(room, from, b"cmp ");
     let from = put_short(room, from, comparator);

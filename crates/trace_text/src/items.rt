@@ -1,10 +1,11 @@
 //! The texts of ITM packets.
 
 ghost use Rattle.std.specs.Prelude.{◌≡◌, ◌+◌, ◌≤◌, ◌<◌, ◌^◌, ◌∷◌, [], ◌++◌, length, codes, decimal};
+ghost use Rattle.std.specs.Prelude.{if◌then◌else◌};
 ghost use Rattle.itm_grammar.specs.Proper.{IsProper};
 ghost use Rattle.itm_grammar.specs.declared.packet.ItmPacket.TheVariants.{Local, GlobalFirst, GlobalSecond, Extension};
 ghost use Rattle.trace_text.specs.Values.{value_text};
-ghost use Rattle.trace_text.specs.ItemText.{lateness_text, flag_text, bits_text, owner_text, item_text};
+ghost use Rattle.trace_text.specs.ItemText.{lateness_text, flag_text, item_text};
 ghost use Rattle.trace_text.specs.Puts.{Puts, PutsAll};
 
 use crate::hardware::put_hardware;
@@ -66,7 +67,8 @@ fn put_first_stamp(
 #[inline(always)]
 fn put_bits(room: &mut [u8], from: usize, wide: bool) -> usize
     requires room { from + 4 ≤ length room.old }
-    ensures { PutsAll room.old room.new from result 3 (bits_text wide ++ codes " ") }
+    ensures { PutsAll room.old room.new from result 3
+        ((if wide then codes "64" else codes "48") ++ codes " ") }
 {
     put_entry(room, from, BITS, 4, wide as usize, 3)
 }
@@ -82,7 +84,7 @@ fn put_second_stamp(room: &mut [u8], from: usize, wide: bool, value: u64) -> usi
 }
 
 fn extension_words(dwt: bool) -> &'static str
-    ensures text { result.now ≡ codes "ext " ++ (owner_text dwt ++ codes " ") }
+    ensures text { result.now ≡ codes "ext " ++ ((if dwt then codes "dwt" else codes "itm") ++ codes " ") }
     ensures bound { length result.now ≤ WORD_ROOM }
 {
     if dwt { "ext dwt " } else { "ext itm " }

@@ -1,13 +1,14 @@
 //! The lines of what the sources and the port gave.
 
 ghost use Rattle.std.specs.Prelude.{◌≡◌, ◌+◌, ◌≤◌, ◌++◌, ◌/◌, false, true, length, codes, decimal};
+ghost use Rattle.std.specs.Prelude.{[], if◌then◌else◌};
 ghost use Rattle.hex.specs.Hex.{encode_lower};
 ghost use Rattle.source_events.specs.declared.event.What.TheVariants.{Packet as GivenPacket};
 ghost use Rattle.itm_grammar.specs.Proper.{IsProper};
 ghost use Rattle.stp_grammar.specs.Proper.{IsProperItem};
 ghost use Rattle.trace_text.specs.Digits.{hundreds_of, KeepsPlace, KeepsPlaceOf};
 ghost use Rattle.trace_text.specs.Printable.{IsProperPacket, IsProperWhat, SuitsPacket, IsPrintable};
-ghost use Rattle.trace_text.specs.LineText.{half_text, source_text, packet_text, what_text, remark_text, event_line};
+ghost use Rattle.trace_text.specs.LineText.{source_text, what_text, remark_text, event_line};
 ghost use Rattle.trace_text.specs.LineText.{itm_event, stp_event, raw_event};
 ghost use Rattle.trace_text.specs.declared.remark.Remark.TheVariants.{None as NoRemark};
 ghost use Rattle.trace_text.specs.Puts.{Puts};
@@ -41,7 +42,7 @@ const SOURCE_ROOM: usize = 6;
 #[inline]
 pub(crate) fn put_half(room: &mut [u8], from: usize, stp: bool, half: u8) -> usize
     requires room { from + HALF_ROOM ≤ length room.old }
-    ensures { Puts room.old room.new from result HALF_ROOM (half_text stp half) }
+    ensures { Puts room.old room.new from result HALF_ROOM (if stp then codes "." ++ decimal half else []) }
 {
     if stp {
         let from = put_byte(room, from, b'.');
@@ -73,7 +74,7 @@ fn put_packet(room: &mut [u8], from: usize, digits: &Digits, packet: &Packet) ->
     requires kept { KeepsPlaceOf digits.now (GivenPacket packet.now) }
     requires proper { IsProperPacket packet.now }
     requires room { from + ITEM_ROOM ≤ length room.old }
-    ensures { Puts room.old room.new from result ITEM_ROOM (packet_text packet.now) }
+    ensures { Puts room.old room.new from result ITEM_ROOM (what_text (GivenPacket packet.now)) }
 {
     match packet {
         Packet::Itm(packet) => put_item(room, from, packet),

@@ -7,7 +7,7 @@ ghost use Rattle.stp_grammar.specs.Proper.{bits_of, IsProperItem, IsProperStamp}
 ghost use Rattle.stp_grammar.specs.declared.item.StpItem.TheVariants.{Trigger};
 ghost use Rattle.trace_text.specs.HexDigits.{hex_digits};
 ghost use Rattle.trace_text.specs.Digits.{KeepsPlace, place_of};
-ghost use Rattle.trace_text.specs.StpText.{known_text, place_text, datum_text, mark_text, stamp_text, stp_text};
+ghost use Rattle.trace_text.specs.StpText.{known_text, place_text, width_text, mark_text, stamp_text, stp_text};
 ghost use Rattle.trace_text.specs.Puts.{Puts, PutsAll};
 
 use crate::digits::Digits;
@@ -71,7 +71,8 @@ pub(crate) fn put_nibbles(room: &mut [u8], from: usize, count: u8, number: u64) 
 fn put_datum(room: &mut [u8], from: usize, width: Width, value: u64) -> usize
     requires fits { value < 2 ^ bits_of width }
     requires room { from + VALUE_ROOM ≤ length room.old }
-    ensures { Puts room.old room.new from result VALUE_ROOM (datum_text width value) }
+    ensures { Puts room.old room.new from result VALUE_ROOM
+        (width_text width ++ (codes " " ++ hex_digits (bits_of width / 4) value)) }
 {
     let counts = DATUM_DIGITS;
     let from = put_part(room, from, DATUM_WIDTHS, 4, DATUM_WIDTH_LENS, width as u8);
@@ -147,7 +148,8 @@ fn put_data(
     requires proper { IsProperStamp stamp }
     requires room { from + ITEM_ROOM ≤ length room.old }
     ensures { Puts room.old room.new from result ITEM_ROOM
-        (codes "data " ++ (place_text place ++ (codes " " ++ (datum_text width value
+        (codes "data " ++ (place_text place
+        ++ (codes " " ++ ((width_text width ++ (codes " " ++ hex_digits (bits_of width / 4) value))
         ++ (codes " " ++ (mark_text marked ++ (codes " " ++ stamp_text stamp))))))) }
 {
     let from = put_placed(room, from, digits, b"data ", place);
