@@ -79,21 +79,21 @@ module _ (words : List Text) (input output notes : List ℕ) (ended : Ended) (st
     misuse = r.misuse;
     untouched = λ misuse. let kept = r.untouched misuse in (kept.0 ∙ whole, lent_keeps output ended.output o kept.1);
     usage_note = λ fault is by.
-      only_notes input first left output notes ended unnoted whole o n (usage_line fault) (r.usage_note fault is by);
+        only_notes input first left output notes ended unnoted whole o n (usage_line fault) (r.usage_note fault is by);
     memory_note = λ by.
-      only_notes input first left output notes ended unnoted whole o n (codes "no memory\n") (r.memory_note by);
+        only_notes input first left output notes ended unnoted whole o n (codes "no memory\n") (r.memory_note by);
     ran = λ job asks.
-      has_done input first left output notes ended unnoted whole o n job.task job.limit status (r.ran job asks);
+        has_done input first left output notes ended unnoted whole o n job.task job.limit status (r.ran job asks);
     no_read_fails = λ by. no_rise (r.read_cause by);
     write_cause = λ by. o.failed (rose_some written o.faults (r.write_cause by));
     complete = λ job bytes asks lost less within sound.
-      r.complete job bytes asks (whole ∙ lost) no_rise (no_write less) within sound;
+        r.complete job bytes asks (whole ∙ lost) no_rise (no_write less) within sound;
     goes_on = λ job bytes asks on lost less within.
-      r.goes_on job bytes asks on (whole ∙ lost) no_rise (no_write less) within;
+        r.goes_on job bytes asks on (whole ∙ lost) no_rise (no_write less) within;
     fronts = λ job plan lost bytes asks lists parts sound done.
-      follows input first left output notes ended unnoted whole o n plan lost bytes
-      (r.fronts job plan lost bytes asks lists (whole ∙ parts) sound done);
+        follows input first left output notes ended unnoted whole o n plan lost bytes
+        (r.fronts job plan lost bytes asks lists (whole ∙ parts) sound done);
     reads_back = λ job p script asks writes lost done.
-      rebuilds input first left output notes ended unnoted whole o n p script
-      (r.reads_back job p script asks writes (whole ∙ lost) done);
+        rebuilds input first left output notes ended unnoted whole o n p script
+        (r.reads_back job p script asks writes (whole ∙ lost) done);
   }

@@ -67,10 +67,10 @@ is_word : (word : List ℕ) → NoCharPasses is_ascii_whitespace word → IsWord
 is_word word none = λ k d l.
     let same : get_or word k d ≡ get_or word k 0 = get_or_default word k d 0 l in
     let here : is_ascii_whitespace (get_or word k 0) ≡ false =
-      elim (low_or_high (get_or word k 0)) [
-        | inl low ↦ NoCharPasses-byte is_ascii_whitespace word k none l low
-        | inr high ↦ black (get_or word k 0) high
-      ] in
+    elim (low_or_high (get_or word k 0)) [
+      | inl low ↦ NoCharPasses-byte is_ascii_whitespace word k none l low
+      | inr high ↦ black (get_or word k 0) high
+    ] in
     ap is_ascii_whitespace same ∙ here
 
 -- after white space a word and what is apart from it come off the front
