@@ -1,15 +1,15 @@
 -- What a run did, over memory that was lent to it.
-use Rattle.std.proofs.Common.{◌≡◌, ℕ, ◌<◌, List, [], length, take, Some, sym, ◌∙◌, arith, inl, inr}
+use Rattle.std.proofs.Common.{◌≡◌, ℕ, ◌<◌, List, [], length, take, Some, sym, ◌∙◌, arith}
 use Rattle.std.proofs.lemmas.Bool.Decides.{nat_tests}
 use Rattle.trace_io.specs.Causes.{Rose}
 use Rattle.trace_stream.specs.Told.{Notes}
 use Rattle.capture_words.specs.declared.job.Task.{Task}
-use Rattle.capture_run.specs.Actions.{HasDone, limit_of}
+use Rattle.capture_words.specs.declared.job.Task.TheVariants.{Exercise, Print}
+use Rattle.capture_run.specs.Actions.{HasDone}
 use Rattle.capture_run.specs.Fronts.{FollowsWhole}
 use Rattle.capture_run.specs.Rebuilds.{Rebuilds}
 use Rattle.capture_run.specs.Run.{HasMade, HasRun, Streams, TaskMeaning, streams}
 use Rattle.capture_run.specs.declared.status.Status.{Status}
-use Rattle.capture_run.proofs.EachTask.{kind_of}
 use Rattle.script_rebuild.specs.declared.plan.RebuildPlan.{RebuildPlan}
 use Rattle.source_events.specs.declared.plan.Plan.{Plan}
 use Rattle.lipparoy_c.specs.Memory.{before_run, after_run, refused, NotesOnly}
@@ -66,11 +66,9 @@ module _ (input first left output notes : List ℕ) (ended : Ended) (faults : �
 
   pub has_done : (task : Task) (limit : ℕ) (status : Status) → HasDone task limit old new status →
       HasDone task limit (before_run input) (after_run left output notes ended) status
-  has_done task limit status done = elim (kind_of task) [
-    | inl reads ↦
-        reads.done limit _ _ status (has_run _ (limit_of task limit) status (reads.run limit old new status done))
-    | inr makes ↦ makes.done limit _ _ status (has_made makes.text status (makes.run limit old new status done))
-  ]
+  has_done (Exercise items lose) limit status done = has_made _ status done
+  has_done (Print page) limit status done = has_made _ status done
+  has_done task limit status done = has_run _ _ status done
 
   pub follows : (plan : Plan) (lost bytes : List ℕ) → FollowsWhole plan lost bytes old.held new.held →
       FollowsWhole plan lost bytes (Some []) (Some (take ended.output output))
