@@ -133,7 +133,13 @@ impl Recovery {
 
     /// Takes bytes of a long piece of a capture with no formatter, where they are.
     #[inline(always)]
-    fn take_long<V: Receiver>(&mut self, at: u64, piece: &[u8], out: &mut V, to: &mut V::To) -> usize
+    fn take_long<V: Receiver>(
+        &mut self,
+        at: u64,
+        piece: &[u8],
+        out: &mut V,
+        to: &mut V::To,
+    ) -> usize
         requires bare { self.old.plan.frames ≡ Bare }
         requires some { END_ROOM < length piece.now }
         requires offsets { (next_of self.old ≤ at) × (at + length piece.now ≤ GREATEST_OFFSET + 1) }
@@ -152,7 +158,13 @@ impl Recovery {
 
     /// Takes bytes of a short piece of a capture with no formatter, which are copied.
     #[inline(never)]
-    fn take_short<V: Receiver>(&mut self, at: u64, piece: &[u8], out: &mut V, to: &mut V::To) -> usize
+    fn take_short<V: Receiver>(
+        &mut self,
+        at: u64,
+        piece: &[u8],
+        out: &mut V,
+        to: &mut V::To,
+    ) -> usize
         requires bare { self.old.plan.frames ≡ Bare }
         requires some { 0 < length piece.now }
         requires offsets { (next_of self.old ≤ at) × (at + length piece.now ≤ GREATEST_OFFSET + 1) }
@@ -333,7 +345,13 @@ impl Recovery {
 
     /// Takes bytes of a capture in frames up to the first one that ends a frame or a synchronisation, or is a fault, or
     /// to the piece's end.
-    fn take_step<V: Receiver>(&mut self, at: u64, piece: &[u8], out: &mut V, to: &mut V::To) -> usize
+    fn take_step<V: Receiver>(
+        &mut self,
+        at: u64,
+        piece: &[u8],
+        out: &mut V,
+        to: &mut V::To,
+    ) -> usize
         requires framed { self.old.plan.frames ≢ Bare }
         requires some { 0 < length piece.now }
         requires offsets { (next_of self.old ≤ at) × (at + length piece.now ≤ GREATEST_OFFSET + 1) }

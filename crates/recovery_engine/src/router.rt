@@ -150,7 +150,12 @@ pub fn take_each<R: Run, V: Receiver>(
 }
 
 /// Takes the cells of a frame, run by run.
-fn take_frame<V: Receiver>(slots: &mut [RecoveringSlot], cells: &[Cell], out: &mut V, to: &mut V::To)
+fn take_frame<V: Receiver>(
+    slots: &mut [RecoveringSlot],
+    cells: &[Cell],
+    out: &mut V,
+    to: &mut V::To,
+)
     requires size { length cells.now ≤ 15 }
     requires few { total slots.old + 6 * length cells.now ≤ COUNT_ROOM }
     requires room { 2 * length cells.now ≤ V.room (out.old, to.old) }

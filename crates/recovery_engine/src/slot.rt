@@ -11,7 +11,7 @@ ghost use Rattle.recovery_engine.specs.Taking.{AreCut, TakesOwn};
 
 use arrayvec::ArrayVec;
 use frame_runs::Run;
-use recovering_machines::{Receiver, MappedSource};
+use recovering_machines::{MappedSource, Receiver};
 use source_events::{MAPPED_SOURCES, Plan, SourceKind};
 use stp_grammar::packet::Order;
 use trace_values::{PacketsMode, SourceId};

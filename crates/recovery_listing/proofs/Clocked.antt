@@ -25,7 +25,8 @@ use Rattle.capture_actions.specs.SourceClocks.{without}
 use Rattle.value_dump.specs.declared.vcd_plan.VcdPlan.{VcdPlan}
 use Rattle.recovery_listing.specs.Dump.{packets_in, packets_of}
 use Rattle.recovery_listing.specs.declared.going_on.GoingOn.{GoingOn}
-use Rattle.recovery_listing.specs.Listing.{clocked_by, clocked_from, seen_by, seen_in}
+use Rattle.recovering_machines.specs.Hearing.{seen_by, seen_in}
+use Rattle.recovery_listing.specs.Listing.{clocked_by, clocked_from}
 use Rattle.recovery_listing.specs.Near.{guess_clocked, guess_clocked_by, guess_clocked_from}
 use Rattle.recovery_listing.specs.Noting.{given_by, given_of, is_misread, loser_of, loss_at, with_losses}
 use Rattle.recovery_listing.proofs.Stretched.{times}

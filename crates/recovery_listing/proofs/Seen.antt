@@ -16,7 +16,7 @@ use Rattle.stretch_readings.specs.declared.heard.Heard.{Heard}
 use Rattle.stretch_readings.specs.declared.heard.Heard.TheVariants.{Read, Broken, Guessed, Misread}
 use Rattle.recovering_machines.specs.Hearing.{as_event, as_strict, is_guess}
 use Rattle.recovery_report.specs.Counts.{is_item, items_in}
-use Rattle.recovery_listing.specs.Listing.{seen_by, seen_in}
+use Rattle.recovering_machines.specs.Hearing.{seen_by, seen_in}
 
 module _ (x : ℕ) where
   abbrev one : Event (Heard Packet) → ℕ

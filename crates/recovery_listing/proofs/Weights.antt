@@ -22,28 +22,22 @@ use Rattle.source_events.specs.declared.packet.Packet.TheVariants.{Itm as ItmOf,
 use Rattle.source_events.specs.declared.plan.Plan.{Plan}
 use Rattle.source_events.specs.declared.plan.SourceKind.{SourceKind}
 use Rattle.source_events.specs.declared.plan.SourceKind.TheVariants.{Itm, Stp}
-use Rattle.source_events.specs.Merge.{InOrder, is_of, part, told}
+use Rattle.source_events.specs.Merge.{is_of, part, told}
 use Rattle.source_events.specs.Packets.{given_as, said_as}
 use Rattle.source_events.specs.Plan.{kind_of}
 use Rattle.source_events.specs.Report.{lifted, raw_events, raws, triggers, what_of}
 use Rattle.source_events.specs.Runs.{IsRunFrom, RisesFrom, end_of, id_of}
 use Rattle.source_events.proofs.Captures.{capture_rises}
-use Rattle.source_events.proofs.Family.{of_cases}
 use Rattle.source_machine.specs.Units.{reads_by}
 use Rattle.stretch_readings.specs.declared.heard.Heard.{Heard}
 use Rattle.stretch_readings.specs.Stretches.{One}
 use Rattle.recovering_machines.specs.Run.{units_in}
 use Rattle.recovery_report.specs.Placing.{PartLies, PartsBetween, part_end}
 use Rattle.recovery_report.specs.Port.{recovered}
-use Rattle.recovery_report.specs.Report.{Part, Run, Locks, Breaks, added_by_with, added_with, events_by_with}
-use Rattle.recovery_report.specs.Report.{events_of_with, fed_by, list_of, parts_in, report, report_from_with}
-use Rattle.recovery_report.specs.Report.{report_with}
-use Rattle.recovery_report.specs.Report.{run_in, said_in}
-use Rattle.recovery_report.proofs.Nearing.{AllBelow, first_below, near}
-use Rattle.recovery_report.proofs.PartLaws as parts
+use Rattle.recovery_report.specs.Report.{Part, Run, Locks, Breaks, events_by, fed_by, list_of, parts_in, report_with}
+use Rattle.recovery_report.specs.Report.{run_in, said_by, said_in}
 use Rattle.recovery_report.proofs.Parting.{parts_in_order, parts_placed}
-use Rattle.recovery_laws.proofs.Ordering.{merged}
-use Rattle.recovering_machines.proofs.Runs.{lifted_append}
+use Rattle.recovery_laws.proofs.Ordering.{ordered}
 use Rattle.recovery_listing.proofs.Stretched.{of_heard, of_read, of_said, one, said_few, times}
 use Rattle.capture_actions.proofs.Ticking.{TellsFew, itm_few, plain}
 use Rattle.capture_actions.proofs.Totals.{total, total-append, total-map}
@@ -156,7 +150,7 @@ module _ (w : ItmPacket → ℕ) (most : ℕ) (small : (n : ℕ) (p : ItmPacket)
   module _ (guesses : Bool) (plan : Plan) (x : ℕ) where
     -- what a source says in parts
     events_few : (o : Option SourceKind) (ms : List Part) (k : ℕ) → PartsBetween 0 k ms →
-        given (events_by_with guesses plan o x ms) ≤ times guesses * (k * most)
+        given (events_by guesses plan o x ms) ≤ times guesses * (k * most)
     events_few None ms k b = let e = raws_none x (flat_map run_in ms) in omega arith
     events_few (Some Itm) ms k b =
         let l = lifted_few (said_in guesses plan Itm x ms) in
@@ -179,21 +173,6 @@ module _ (w : ItmPacket → ℕ) (most : ℕ) (small : (n : ℕ) (p : ItmPacket)
     abbrev pub of_event : Event (Heard Packet) → ℕ
     of_event e = cond (is_of (Some x) e.source) (of_what e.what) 0
 
-    chosen : (t : Bool) (n : ℕ) → cond t n 0 ≤ n
-    chosen true n = omega arith
-    chosen false n = omega arith
-
-    told_less : (y : Option ℕ) (l : List (What (Heard Packet) × Place)) → total of_event (told y l) ≤ given l
-    told_less y [] = omega arith
-    told_less y (g ∷ l) =
-        let a = chosen (is_of (Some x) y) (of_what g.0) in let b = told_less y l in omega arith
-
-    told_other : (y : Option ℕ) → is_source x y ≡ false → (l : List (What (Heard Packet) × Place)) →
-        total of_event (told y l) ≡ 0
-    told_other y e [] = refl
-    told_other y e (g ∷ l) =
-        let a = ap (λ (t : Bool). cond t (of_what g.0) 0) e in let b = told_other y e l in omega arith
-
     told_part : (es : List (Event (Heard Packet))) → total of_event es ≤ total (λ e. of_what e.what) (part (Some x) es)
     told_part [] = omega arith
     told_part (e ∷ es) = by (is_of (Some x) e.source) (told_part es) where
@@ -207,100 +186,18 @@ module _ (w : ItmPacket → ℕ) (most : ℕ) (small : (n : ℕ) (p : ItmPacket)
     told_given [] = refl
     told_given (g ∷ l) = ap (λ (n : ℕ). of_what g.0 + n) (told_given l)
 
-    module _ (plan : Plan) where
-      abbrev says : List Part → ℕ
-      says ms = given (events_of_with true plan x ms)
+    module _ (plan : Plan) (bytes : List ℕ) where
+      abbrev all_parts : List Part
+      all_parts = parts_in (recovered plan.frames (placed bytes))
 
-      abbrev adds : List Part → Part → ℕ
-      adds ms m = total of_event (added_with true plan ms m)
-
-      -- what a part adds that is not of this source
-      other_run : (ms : List Part) (run : List Cell) → is_source x (id_of run) ≡ false → adds ms (Run run) ≡ 0
-      other_run ms run e = by (id_of run) e where
-        by : (o : Option ℕ) → is_source x o ≡ false → total of_event (added_by_with true plan ms o (Run run)) ≡ 0
-        by None e = refl
-        by (Some y) e = told_other (Some y) e
-            (drop (length (events_of_with true plan y ms)) (events_of_with true plan y (ms ++ Run run ∷ [])))
-
-      -- one more part: a source says no less, and what is added of it is what it says more
-      mapped_more : (n : ℕ) (ms : List Part) → AllBelow plan n ms → (kind : SourceKind) → kind_of plan x ≡ Some kind →
-          (m : Part) → PartLies n m → adds ms m + says ms ≤ says (ms ++ m ∷ [])
-      mapped_more n ms all kind k m l =
-          let grew = near plan n ms all x kind m l in
-          let old = said_in true plan kind x ms in
-          let before = ap (λ o. given (events_by_with true plan o x ms)) k in
-          let after = ap (λ o. given (events_by_with true plan o x (ms ++ m ∷ []))) k
-          ∙ ap (λ s. given (lifted s)) grew.is ∙ ap given (lifted_append old grew.extra)
-          ∙ total-append (λ (g : What (Heard Packet) × Place). of_what g.0) (lifted old) (lifted grew.extra) in
-          let more = by m l grew.extra grew.is in
-          omega arith where
-            by : (m : Part) → PartLies n m → (extra : List (Said (Heard Packet) × Place)) →
-                said_in true plan kind x (ms ++ m ∷ []) ≡ said_in true plan kind x ms ++ extra →
-                adds ms m ≤ given (lifted extra)
-            by (Run run) l extra e = elim (of_cases x (id_of run)) [
-              | inl i ↦ (
-                  let a = ap (total of_event) ((parts.own_with true plan kind x ms run k i.0).more extra e) in
-                  let t = told_less (Some x) (lifted extra) in
-                  omega arith)
-              | inr i ↦ (let o = other_run ms run i.1 in omega arith)
-            ]
-            by (Locks skipped place) l extra e = omega arith
-            by (Breaks reason place) l extra e = omega arith
-
-      raw_more : (ms : List Part) → kind_of plan x ≡ None → (m : Part) → adds ms m + says ms ≤ says (ms ++ m ∷ [])
-      raw_more ms k m =
-          let none = ap (λ o. given (events_by_with true plan o x ms)) k ∙ raws_none x (flat_map run_in ms) in
-          let more = by m in
-          omega arith where
-            by : (m : Part) → adds ms m ≡ 0
-            by (Run run) = elim (of_cases x (id_of run)) [
-              | inl i ↦ (
-                  let a = ap (total of_event) (parts.raw_with true plan x ms run k i.0) in
-                  let t = told_less (Some x) (raw_events x run) in
-                  let r = raw_none x run in
-                  omega arith)
-              | inr i ↦ other_run ms run i.1
-            ]
-            by (Locks skipped place) = refl
-            by (Breaks reason place) = refl
-
-      one_more : (n : ℕ) (ms : List Part) → AllBelow plan n ms → (m : Part) → PartLies n m →
-          adds ms m + says ms ≤ says (ms ++ m ∷ [])
-      one_more n ms all m l = by (kind_of plan x) refl where
-        by : (o : Option SourceKind) → kind_of plan x ≡ o → adds ms m + says ms ≤ says (ms ++ m ∷ [])
-        by None k = raw_more ms k m
-        by (Some kind) k = mapped_more n ms all kind k m l
-
-      all_more : (ms ahead : List Part) (n : ℕ) → InOrder PartLies part_end n ms → AllBelow plan n ahead →
-          total of_event (report_from_with true plan ahead ms) + says ahead ≤ says (ahead ++ ms)
-      all_more [] ahead n r all =
-          let e = ap says (append-nil ahead) in omega arith
-      all_more (m ∷ ms) ahead n r all =
-          let next = ahead ++ m ∷ [] in
-          let one = one_more n ahead all m r.0 in
-          let rest = all_more ms next (part_end m) r.1 (λ x kind. (near plan n ahead all x kind m r.0).below) in
-          let a = total-append of_event (added_with true plan ahead m) (report_from_with true plan next ms) in
-          let e = ap says (append_assoc ahead (m ∷ []) ms) in
+      pub report_few : (guesses : Bool) →
+          total of_event (report_with guesses plan (placed bytes)) ≤ times guesses * (length bytes * most)
+      report_few guesses =
+          let m = (ordered guesses plan all_parts 0
+          (parts_in_order plan.frames (placed bytes) 0 (length bytes) (capture_rises bytes))).parts (Some x) in
+          let p = told_part (report_with guesses plan (placed bytes)) in
+          let e = ap (λ (es : List (Event (Heard Packet))). total (λ e. of_what e.what) es) m
+          ∙ told_given (said_by guesses plan (Some x) all_parts) in
+          let f = events_few guesses plan x (kind_of plan x) all_parts (length bytes)
+          (parts_placed plan.frames (placed bytes) 0 (length bytes) (capture_rises bytes)) in
           omega arith
-
-      module _ (bytes : List ℕ) where
-        abbrev all_parts : List Part
-        all_parts = parts_in (recovered plan.frames (placed bytes))
-
-        pub report_few : (guesses : Bool) →
-            total of_event (report_with guesses plan (placed bytes)) ≤ times guesses * (length bytes * most)
-        report_few false =
-            let m = (merged plan all_parts 0
-            (parts_in_order plan.frames (placed bytes) 0 (length bytes) (capture_rises bytes))).of_source x in
-            let p = told_part (report plan (placed bytes)) in
-            let e = ap (λ (es : List (Event (Heard Packet))). total (λ e. of_what e.what) es) m
-            ∙ told_given (events_of_with false plan x all_parts) in
-            let f = events_few false plan x (kind_of plan x) all_parts (length bytes)
-            (parts_placed plan.frames (placed bytes) 0 (length bytes) (capture_rises bytes)) in
-            omega arith
-        report_few true =
-            let m = all_more all_parts [] 0
-            (parts_in_order plan.frames (placed bytes) 0 (length bytes) (capture_rises bytes)) (first_below plan 0) in
-            let f = events_few true plan x (kind_of plan x) all_parts (length bytes)
-            (parts_placed plan.frames (placed bytes) 0 (length bytes) (capture_rises bytes)) in
-            omega arith

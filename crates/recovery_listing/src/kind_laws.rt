@@ -6,7 +6,7 @@ ghost use Rattle.trace_values.specs.Placed.{placed};
 ghost use Rattle.source_events.specs.declared.plan.Plan.{Plan};
 ghost use Rattle.capture_actions.specs.KindCounts.{kind_count};
 ghost use Rattle.capture_actions.specs.Words.{all_words};
-ghost use Rattle.recovery_listing.specs.Listing.{seen_in};
+ghost use Rattle.recovering_machines.specs.Hearing.{seen_in};
 ghost use Rattle.recovery_report.specs.Counts.{source_counts_of};
 ghost use Rattle.recovery_report.specs.Report.{report};
 

@@ -5,7 +5,8 @@ use Rattle.stp_grammar.proofs.Items.{last_lt}
 use Rattle.stp_encoder.specs.Names.{natural_of, gray_of, SizedWord, WordFits, sized, next_word, Row}
 use Rattle.stp_encoder.specs.Names.{StpPacket, Plain, Stamped, Place, Stamp, None as NoStamp, Natural, Gray, Raw}
 use Rattle.stp_encoder.specs.Names.{StpItem, line_of, IsProper, IsProperStamp, next_master, next_channel, version_of}
-use Rattle.stp_encoder.specs.Names.{last_word_of, place_of, stamp_of, stamp_by, keeps_word, item_with, item_of}
+use Rattle.stp_grammar.proofs.Told.{stamp_of}
+use Rattle.stp_encoder.specs.Names.{last_word_of, place_of, stamp_by, keeps_word, item_with, item_of}
 use Rattle.trace_clock.proofs.GrayCodes.{to_and_fro, gray_lt}
 use Rattle.stp_grammar.proofs.Attributing.{version_more, last_more}
 use Rattle.stp_encoder.specs.Fitting.{is_version, is_of_version}

@@ -6,7 +6,8 @@ use Rattle.stp_encoder.specs.Names.{None as NoStamp, StpItem, Async as AsyncItem
 use Rattle.stp_encoder.specs.Names.{MasterError as MasterErrorItem, GlobalError as GlobalErrorItem, Datum as DatumItem}
 use Rattle.stp_encoder.specs.Names.{Flag as FlagItem, Trigger as TriggerItem, Frequency as FrequencyItem}
 use Rattle.stp_encoder.specs.Names.{NullStamp as NullStampItem, IsProper, IsProperPlace, IsProperItem, version_of}
-use Rattle.stp_encoder.specs.Names.{master_of, channel_of, last_word_of, stamp_by, place_of, stamp_of, item_with}
+use Rattle.stp_grammar.proofs.Told.{stamp_of}
+use Rattle.stp_encoder.specs.Names.{master_of, channel_of, last_word_of, stamp_by, place_of, item_with}
 use Rattle.stp_encoder.specs.Names.{item_of, next_version, next_master, next_channel, next_last}
 use Rattle.stp_grammar.specs.declared.packet.Row.TheVariants.{MasterError, Datum, Flag, NullStamp, Trigger, Frequency}
 use Rattle.stp_grammar.specs.declared.packet.StpPacket.TheVariants.{Async}

@@ -1,6 +1,6 @@
 -- Names of lower crates, for the files of this one.
 pub use Rattle.stp_grammar.specs.Attribution.{attribute, begins_master, channel_of, item_of, item_with, keeps_word}
-pub use Rattle.stp_grammar.specs.Attribution.{master_of, place_of, stamp_by, stamp_in, stamp_of, version_in}
+pub use Rattle.stp_grammar.specs.Attribution.{master_of, place_of, stamp_by, stamp_in, version_in}
 unfoldable pub use Rattle.stp_grammar.specs.Attribution.{last_word_of, version_of}
 pub use Rattle.stp_grammar.specs.NextState.{next_channel, next_last, next_master, next_number, next_version}
 pub use Rattle.stp_grammar.specs.Opcodes.{line_of}

@@ -4,7 +4,7 @@ use Rattle.source_events.proofs.Captures.{capture_rises}
 use Rattle.recovery_report.specs.Report.{report}
 use Rattle.recovery_laws.proofs.Guessed.{no_guess}
 use Rattle.capture_actions.proofs.Kinded.{sum_of_kinds}
-use Rattle.recovery_listing.specs.Listing.{seen_in}
+use Rattle.recovering_machines.specs.Hearing.{seen_in}
 use Rattle.recovery_listing.proofs.Seen.{seen_items}
 use Rattle.recovery_listing.proofs.kind_laws.sum_law.Goals as goal
 
