@@ -1,5 +1,5 @@
-//! A whole frame of the port as what its sources sent: where its bytes are, its data in their places, and the runs of its
-//! sources one after the other; and a run of one source, in a frame or in a piece of a capture with no formatter.
+//! A whole frame of the port as what its sources sent: where its bytes are, its data in their places, and the runs of
+//! its sources one after the other; and a run of one source, in a frame or in a piece of a capture with no formatter.
 #![tactic(auto)]
 
 mod bare;

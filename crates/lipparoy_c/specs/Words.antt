@@ -12,8 +12,8 @@ abbrev pub with_front : ℕ → List (List ℕ) → List (List ℕ)
 with_front byte [] = (byte ∷ []) ∷ []
 with_front byte (word ∷ words) = (byte ∷ word) ∷ words
 
--- The words of a text: its bytes but for the ASCII white space, of which two are in one word where none is between them.
--- A byte of a word joins the word that the text goes on with, or is a word by itself.
+-- The words of a text: its bytes but for the ASCII white space, of which two are in one word where none is between
+-- them. A byte of a word joins the word that the text goes on with, or is a word by itself.
 unfoldable pub words_of : List ℕ → List (List ℕ)
 words_of [] = []
 words_of (byte ∷ rest) =

@@ -19,9 +19,9 @@ use words::words_in;
 
 /// Does what the words ask for on the input, as the program does, and tells how that ended.
 ///
-/// The words are apart by ASCII white space. If they are not UTF-8, or if there is no memory to keep them, the status is
-/// 11, and nothing is written. Otherwise the status is the number of the run's, and what the run wrote and noted is at
-/// the front of the two rooms. A room that is too small is a failed write.
+/// The words are apart by ASCII white space. If they are not UTF-8, or if there is no memory to keep them, the status
+/// is 11, and nothing is written. Otherwise the status is the number of the run's, and what the run wrote and noted is
+/// at the front of the two rooms. A room that is too small is a failed write.
 #[unsafe(no_mangle)]
 pub extern "C" fn lipparoy_run(
     alloc: Global,

@@ -165,8 +165,8 @@ impl MappedSource {
         self.sure.take_packets(id, run, from, out, to)
     }
 
-    /// Takes bytes of a run from this index on within the unfinished packet, where nothing is read on. Answers the index
-    /// after them: this index where nothing is known of the bytes.
+    /// Takes bytes of a run from this index on within the unfinished packet, where nothing is read on. Answers the
+    /// index after them: this index where nothing is known of the bytes.
     #[inline(always)]
     fn take_within<R: Run, V: Receiver>(
         &mut self,

@@ -92,8 +92,9 @@ fn give_packet<V: Receiver>(
     }
 }
 
-/// Takes bytes of a run of this source from this index on, within the unfinished packet, up to the one in which it ends,
-/// or all of them. Gives the packet, and answers the index after them: this index where nothing is known of the bytes.
+/// Takes bytes of a run of this source from this index on, within the unfinished packet, up to the one in which it
+/// ends, or all of them. Gives the packet, and answers the index after them: this index where nothing is known of the
+/// bytes.
 #[inline(always)]
 pub(crate) fn take_within<R: Run, V: Receiver>(
     source: &mut RecoveringSource,

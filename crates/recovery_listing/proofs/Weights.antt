@@ -1,7 +1,6 @@
 -- What the packets of a source weigh in the recovering report of some bytes, with its guesses or without.
-use Rattle.std.proofs.Common.{◌≡◌, ◌≤◌, ◌<◌, ℕ, ◌+◌, ◌*◌, List, [], ◌∷◌, ◌++◌, length, drop, map, flat_map, refl}
-use Rattle.std.proofs.Common.{◌∙◌, ap, arith, inl, inr, Bool, true, false, cond, Option, None, Some, append_assoc}
-use Rattle.std.proofs.Common.{append-nil}
+use Rattle.std.proofs.Common.{◌≡◌, ◌≤◌, ◌<◌, ℕ, ◌+◌, ◌*◌, List, [], ◌∷◌, length, map, flat_map, refl}
+use Rattle.std.proofs.Common.{◌∙◌, ap, arith, Bool, true, false, cond, Option, None, Some}
 use Rattle.std.specs.Prelude.{◌==◌}
 use Rattle.std.proofs.Math.Nat.{mul-le-mul_right}
 use Rattle.trace_values.specs.declared.cell.Cell.{Cell}

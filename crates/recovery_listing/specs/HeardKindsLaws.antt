@@ -8,7 +8,6 @@ use Rattle.recovering_machines.specs.HearingLaws.{seen_adds_up}
 use Rattle.recovery_engine.specs.HeardLaws as heard
 use Rattle.capture_actions.specs.KindCounts as counts
 use Rattle.capture_actions.specs.KindCountsLaws as laws
-use Rattle.capture_actions.specs.declared.kind_counts.KindCounts.{KindCounts}
 use Rattle.recovery_listing.specs.HeardKinds.{gets}
 use Rattle.recovery_listing.specs.declared.heard_kinds.HeardKinds.{HeardKinds}
 

@@ -55,7 +55,8 @@ gets_more a b c es fs g h =
           h.text (before ++ es) (g.stands before k)
           (subst (λ (kept : Bool). Suit kept fs) (sym g.kept) (suit_next a.0.guess_clocks.kept es fs n))
           ∙ ap (λ (q : ListPlan). b.1 ++ near_lines_after q (before ++ es) fs) g.same
-          ∙ ap (λ (l : List ℕ). l ++ near_lines_after p (before ++ es) fs) (g.text before k (suit_first a.0.guess_clocks.kept es fs n))
+          ∙ ap (λ (l : List ℕ). l ++ near_lines_after p (before ++ es) fs)
+          (g.text before k (suit_first a.0.guess_clocks.kept es fs n))
           ∙ append_assoc a.1 (near_lines_after p before es) (near_lines_after p (before ++ es) fs)
           ∙ ap (λ (l : List ℕ). a.1 ++ l) (sym (near_append p before es fs));
     }

@@ -2,7 +2,6 @@
 use Rattle.std.proofs.Common.{◌≡◌, ℕ, List, [], ◌∷◌, ◌++◌, Option, None, Some, ◌∙◌, ap, refl, sym}
 use Rattle.std.proofs.Common.{cond, Bool, true, false}
 use Rattle.std.specs.Prelude.{Result, Ok, Err, flat_map}
-use Rattle.std.proofs.lemmas.Grind.{flat_map-append}
 use Rattle.trace_values.specs.declared.fault.Reason.{Reason}
 use Rattle.trace_values.specs.Placed.{placed}
 use Rattle.itm_grammar.specs.declared.packet.ItmPacket.TheVariants.{Overflow}

@@ -1,5 +1,5 @@
 -- How the account of `text` goes on: proofs that its `impl` cites.
-use Rattle.std.proofs.Common.{◌≡◌, ◌<◌, ℕ, List, [], ◌++◌, length, sym, ◌∙◌, ap, Bool, Option}
+use Rattle.std.proofs.Common.{◌≡◌, ◌<◌, ℕ, List, ◌++◌, length, sym, ◌∙◌, ap, Bool, Option}
 use Rattle.std.specs.Prelude.{◌||◌}
 use Rattle.source_events.specs.declared.event.Event.{Event}
 use Rattle.source_events.specs.declared.packet.Packet.{Packet}

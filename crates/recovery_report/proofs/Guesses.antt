@@ -2,9 +2,8 @@
 -- back. (With half a byte of an STP source a guess may be taken back: where the other half locks the hunt.)
 use Rattle.std.proofs.Common.{◌≡◌, ℕ, ◌+◌, ◌-◌, ◌<◌, ◌≤◌, List, [], ◌∷◌, ◌++◌, length, drop, map, refl, sym}
 use Rattle.std.proofs.Common.{◌∙◌, ap, subst, arith, inl, inr, ◌⊎◌, append_assoc, append-nil, Option, None, Some, Bool}
-use Rattle.std.proofs.Common.{true, false, cond}
+use Rattle.std.proofs.Common.{true, false}
 use Rattle.std.specs.Prelude.{is_none, filter, flat_map, nat_lt}
-use Rattle.std.proofs.lemmas.Bool.Decides.{nat_tests}
 use Rattle.std.proofs.lemmas.Grind.{flat_map-append}
 use Rattle.std.proofs.lemmas.List.{drop_all, map-append}
 use Rattle.std.proofs.lemmas.List.Elements.{filter-append}
@@ -12,9 +11,8 @@ use Rattle.trace_values.specs.declared.cell.Cell.{Cell}
 use Rattle.trace_values.specs.declared.fault.Reason.{Reason}
 use Rattle.trace_values.specs.Placed.{Place, Placed}
 use Rattle.trace_values.specs.Stream.{Said, Notice, Kept, Stream}
-use Rattle.trace_values.proofs.OneUnit.{AllOn, FaultOn, RisesOn}
+use Rattle.trace_values.proofs.OneUnit.{RisesOn}
 use Rattle.source_events.specs.declared.plan.SourceKind.{SourceKind}
-use Rattle.source_events.specs.declared.plan.SourceKind.TheVariants.{Itm, Stp}
 use Rattle.source_events.specs.Merge.{AllIn, IsAtMost, start_of}
 use Rattle.source_events.proofs.Family.{Within}
 use Rattle.source_events.proofs.Merges.{at_most_self, start_le}
@@ -29,89 +27,12 @@ use Rattle.stretch_readings.specs.Words.{IsSound}
 use Rattle.stretch_readings.proofs.Feeding.{last_unit}
 use Rattle.stretch_readings.proofs.StretchLaws.{from_append}
 use Rattle.recovering_machines.specs.Run.{units_in}
+use Rattle.recovery_report.proofs.Below.{all_below, drop_more, ends_none, ends_on, EndsAt, is_within, none_below}
+use Rattle.recovery_report.proofs.Below.{on_below, said_join, said_later, SaidBelow, units_below, units_join}
+use Rattle.recovery_report.proofs.Below.{units_later, UnitsBelow}
 use Rattle.recovery_report.proofs.Hearing.{all_later, at_next_on, last_at, last_of, stays_whole, units_span, units_to}
 use Rattle.recovery_report.proofs.Spans.{AllTo, UnitsTo, at_le, guess_to, in_join, on_to, to_in, to_join, to_le}
 use Rattle.recovery_report.proofs.Spans.{to_more, units_before, units_drop, units_le, units_push}
-
--- units, and what is said, before an offset
-abbrev pub UnitsBelow : ℕ → List Placed → Type 0
-UnitsBelow n [] = Unit {0}
-UnitsBelow n (u ∷ us) = (u.place.at < n) × UnitsBelow n us
-
-abbrev pub SaidBelow : {W : Type 0} → ℕ → List (W × Place) → Type 0
-SaidBelow n [] = Unit {0}
-SaidBelow n (x ∷ xs) = (x.1.at < n) × SaidBelow n xs
-
-units_join : (n : ℕ) (u w : List Placed) → UnitsBelow n u → UnitsBelow n w → UnitsBelow n (u ++ w)
-units_join n [] w a b = b
-units_join n (x ∷ u) w a b = (a.0, units_join n u w a.1 b)
-
-units_later : (n m : ℕ) (u : List Placed) → n ≤ m → UnitsBelow n u → UnitsBelow m u
-units_later n m [] l a = tt
-units_later n m (x ∷ u) l a = ((let k = a.0 in omega arith), units_later n m u l a.1)
-
-said_join : {W : Type 0} (n : ℕ) (xs ys : List (W × Place)) → SaidBelow n xs → SaidBelow n ys → SaidBelow n (xs ++ ys)
-said_join n [] ys a b = b
-said_join n (x ∷ xs) ys a b = (a.0, said_join n xs ys a.1 b)
-
-said_later : {W : Type 0} (n m : ℕ) (xs : List (W × Place)) → n ≤ m → SaidBelow n xs → SaidBelow m xs
-said_later n m [] l a = tt
-said_later n m (x ∷ xs) l a = ((let k = a.0 in omega arith), said_later n m xs l a.1)
-
-on_below : {W : Type 0} (p : Place) (n : ℕ) (xs : List (W × Place)) → p.at < n → AllOn p xs → SaidBelow n xs
-on_below p n [] l a = tt
-on_below p n (x ∷ xs) l a = (subst (λ (q : Place). q.at < n) (sym a.0) l, on_below p n xs l a.1)
-
--- the units before the byte in which something is said first
-is_below : (a n : ℕ) → a < n → nat_lt a n ≡ true
-is_below a n l = grind (arith, nat_tests)
-
-is_not_below : (a n : ℕ) → n ≤ a → nat_lt a n ≡ false
-is_not_below a n l = grind (arith, nat_tests)
-
-all_below : (n : ℕ) (u : List Placed) → UnitsBelow n u → filter (λ (x : Placed). nat_lt x.place.at n) u ≡ u
-all_below n [] a = refl
-all_below n (x ∷ u) a =
-    let rest = filter (λ (y : Placed). nat_lt y.place.at n) u in
-    ap (λ b. cond b (x ∷ rest) rest) (is_below x.place.at n a.0) ∙ ap (λ l. x ∷ l) (all_below n u a.1)
-
-none_below : (n : ℕ) (p q : Place) (u : List Placed) → n ≤ p.at → UnitsTo p q u →
-    filter (λ (x : Placed). nat_lt x.place.at n) u ≡ []
-none_below n p q [] l a = refl
-none_below n p q (x ∷ u) l a =
-    let rest = filter (λ (y : Placed). nat_lt y.place.at n) u in
-    let low : n ≤ x.place.at = (let k = at_le p x.place a.0 in omega (arith, k, l)) in
-    ap (λ b. cond b (x ∷ rest) rest) (is_not_below x.place.at n low) ∙ none_below n x.place q u low a.1
-
-units_below : (p q : Place) (n : ℕ) (w : List Placed) → UnitsTo p q w → q.at < n → UnitsBelow n w
-units_below p q n [] a l = tt
-units_below p q n (b ∷ w) a l = (
-  (let k = at_le b.place q (units_le b.place q w a.1) in omega (arith, k, l)),
-  units_below b.place q n w a.1 l,
-)
-
--- a list longer than one keeps its rest
-drop_more : (p q : Place) (u w : List Placed) → UnitsTo p q w →
-    (more : List Placed) × (drop 1 (u ++ w) ≡ drop 1 u ++ more) × UnitsTo p q more
-drop_more p q [] w i = (drop 1 w, refl, units_drop p q w i)
-drop_more p q (x ∷ u) w i = (w, refl, i)
-
-is_within : (p q r : Place) (n : ℕ) → p.at ≡ n → r.at ≡ n → IsAtMost p q → IsAtMost q r → q.at ≡ n
-is_within p q r n a b l m = let k = at_le p q l in let h = at_le q r m in omega (arith, k, h, a, b)
-
--- a fault, where there is one, is at this place
-abbrev EndsAt : Place → Option (Place × Reason) → Type 0
-EndsAt q None = Unit {0}
-EndsAt q (Some f) = f.0 ≡ q
-
-ends_on : (q : Place) (old new : Option (Place × Reason)) → old ≡ None → FaultOn q old new → EndsAt q new
-ends_on q None None e f = tt
-ends_on q None (Some g) e f = f
-ends_on q (Some g) new e f = absurd (let k = e in cc)
-
-ends_none : (q : Place) (o : Option (Place × Reason)) → o ≡ None → EndsAt q o
-ends_none q None e = tt
-ends_none q (Some f) e = absurd (let k = e in cc)
 
 module _ {V : Type 0} (reads : Bool → List Placed → Stream V)
     (rises : (h : Bool) (u : List Placed) (b : Placed) → RisesOn (reads h u) (reads h (u ++ b ∷ [])) b.place)

@@ -1,6 +1,6 @@
 -- What a recovering source says more with units at places in order is at these places.
 use Rattle.std.proofs.Common.{◌≡◌, ℕ, ◌+◌, ◌-◌, ◌<◌, ◌≤◌, List, [], ◌∷◌, ◌++◌, length, map, refl, sym, ◌∙◌, ap, subst}
-use Rattle.std.proofs.Common.{arith, inl, inr, append_assoc, append-nil, Option, None, Some, Bool, true, false}
+use Rattle.std.proofs.Common.{arith, inr, append_assoc, append-nil, Option, None, Some, Bool, true, false}
 use Rattle.std.specs.Prelude.{is_none, flat_map}
 use Rattle.std.proofs.lemmas.Grind.{flat_map-append}
 use Rattle.std.proofs.lemmas.List.{drop_all, map-append}

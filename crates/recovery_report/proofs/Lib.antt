@@ -6,6 +6,7 @@ pub mod Rises
 pub mod Spans
 pub mod Hearing
 pub mod Singles
+pub mod Below
 pub mod Guesses
 pub mod Items
 pub mod Placing
